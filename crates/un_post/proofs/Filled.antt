@@ -33,7 +33,8 @@ use Rattle.un_post.proofs.Blocks.{blocks, region_places, region_close, in_all, s
 use Rattle.un_post.proofs.CallOrder.{ordered}
 use Rattle.un_post.proofs.Crossed.{owed_spills, owed_reloads}
 use Rattle.un_post.proofs.Facts.{Given, in_domains}
-use Rattle.un_post.proofs.Filling.{enough, greatest_is, none_of, several_more, first_of_several, takes_is, Beside, Other, beside_none, beside_one}
+use Rattle.un_post.proofs.Filling.{enough, greatest_is, none_of, several_more, first_of_several, takes_is, Beside, Other, beside_none}
+use Rattle.un_post.proofs.Filling.{beside_one}
 use Rattle.un_post.proofs.Filling.{beside_several, beside_both, beside_fits, takes, IsThere, sum_passing, sum_filter, filter_whole}
 use Rattle.un_post.proofs.Issued.{is_issued, own_as, own_none, issued_some, issued_mandatory, call_issued, copy_optional}
 use Rattle.un_post.proofs.Issued.{enter_optional, leave_optional, leave_frames, leave_instr, tag, leave_after, and_no, first_no}
@@ -184,7 +185,8 @@ module _ (e : Ext) (o : Options) (x : List ℕ) (given : Given e o x)
                 let first = first_of_several e o x solved Spilling count (omega (arith, ne)) s in
                 let p = first.0 in
                 let spill = first.1 in
-                let after = late e o x given schedule (issue_at x p) (issue_member p spill.member) (spill.block ∙ spill.entry) spill.instr in
+                let after = late e o x given schedule (issue_at x p) (issue_member p spill.member) (spill.block ∙ spill.entry)
+                spill.instr in
                 let one = one_enter e o x given in
                 let is : tag (issue_at x one.enter).instr ≡ 2 = ap tag after.is in
                 let begun = after.some in
@@ -202,7 +204,8 @@ module _ (e : Ext) (o : Options) (x : List ℕ) (given : Given e o x)
                   greatest = omega (arith, is);
                 })
                 (λ resource. ap (share_of e.table resource) (sym after.is)) in
-                let spills = beside_several e o x solved r.block lo n test tag 3 4 count (Some Spill) Spilling spill_other (λ q p. p.instr) s in
+                let spills = beside_several e o x solved r.block lo n test tag 3 4 count (Some Spill) Spilling spill_other
+                (λ q p. p.instr) s in
                 beside_both e o x solved r.block lo n test tag 2 3 4 (λ resource. share_of e.table resource (Some EnterOp))
                 (λ resource. count * share_of e.table resource (Some Spill))
                 (λ resource. share_of e.table resource (Some EnterOp) + count * share_of e.table resource (Some Spill)) (omega arith)
@@ -216,11 +219,13 @@ module _ (e : Ext) (o : Options) (x : List ℕ) (given : Given e o x)
             reloads = beside_several e o x solved r.block lo n test tag 4 5 count (Some Reload) Reloading reload_other (λ q p. p.instr) s
 
             by : (b leaves : Bool) → (count == 0) ≡ b → has_leave ps ≡ leaves
-                → With 4 6 (λ resource. if b then 0 else (if leaves then share_of e.table resource (Some LeaveOp) else 0) + count * share_of e.table
+                → With 4 6 (λ resource. if b then 0
+                else (if leaves then share_of e.table resource (Some LeaveOp) else 0) + count * share_of e.table
                 resource (Some Reload))
             by true leaves is leave = beside_none e o x solved r.block lo n test tag 4 6 (λ resource. 0) (λ resource. refl)
             by false false some leave =
-                beside_both e o x solved r.block lo n test tag 4 5 6 (λ resource. count * share_of e.table resource (Some Reload)) (λ resource. 0)
+                beside_both e o x solved r.block lo n test tag 4 5 6 (λ resource. count * share_of e.table resource (Some Reload))
+                (λ resource. 0)
                 (λ resource. 0 + count * share_of e.table resource (Some Reload)) (omega arith) (omega arith) (λ resource. omega arith)
                 reloads (beside_none e o x solved r.block lo n test tag 5 6 (λ resource. 0) (λ resource. refl))
             by false true some leave =
@@ -234,7 +239,8 @@ module _ (e : Ext) (o : Options) (x : List ℕ) (given : Given e o x)
                 let is_so : is_leave q.0.op.kind ≡ true = ap (λ (p : Place). is_leave p.it.kind) q.2 ∙ found.2 in
                 let mq = in_all e o x r q.0 mr q.1 in
                 let mi = issue_member q.0 mq in
-                let on : (issue_at x q.0).active ≡ true = each_member (HasFrame true) (issues_of (model_of e o) x) (issue_at x q.0) f.active mi
+                let on : (issue_at x q.0).active ≡ true =
+                each_member (HasFrame true) (issues_of (model_of e o) x) (issue_at x q.0) f.active mi
                 (leave_frames q.0.op.kind is_so) in
                 let v = vars_of q.0 in
                 let instr = leave_instr q.0.op.kind (value_by x v.instr) is_so on in
@@ -325,7 +331,8 @@ module _ (e : Ext) (o : Options) (x : List ℕ) (given : Given e o x)
           })
           (λ resource. ap (share_of e.table resource) (sym call_is)))
           (spills_beside 1 (cycle c) others not_others (omega arith) spills
-          (several_more e o x solved (λ p. SpilledBy e o x solved c p × (r.block ≡ 0)) (Spilling 1 (cycle c) others not_others) spills spilling
+          (several_more e o x solved (λ p. SpilledBy e o x solved c p × (r.block ≡ 0)) (Spilling 1 (cycle c) others not_others) spills
+          spilling
           (owed_spills e o x given schedule r mr c mc call)))
 
       ahead_there : (q : Placed) → Member q (region_placed r) → is_ahead arcs (place_of c) (place_of q) ≡ true → is_issued q.op.kind ≡ true
@@ -394,7 +401,8 @@ module _ (e : Ext) (o : Options) (x : List ℕ) (given : Given e o x)
           (several_more e o x solved (ReloadedAfter e o x solved c) (Reloading (cycle c + 1) left all_own (λ q h. h)) reloads reloading
           (owed_reloads e o x given schedule r mr c mc call))
 
-      behind_there : (q : Placed) → Member q (region_placed r) → is_behind arcs (place_of c) (place_of q) ≡ true → is_issued q.op.kind ≡ true
+      behind_there : (q : Placed) → Member q (region_placed r) → is_behind arcs (place_of c) (place_of q) ≡ true
+          → is_issued q.op.kind ≡ true
           → There (cycle c + 1) left all_own q × (all_own q ≡ true)
       behind_there q m late t =
           let within = issued_within q (in_all e o x r q mr m) t in

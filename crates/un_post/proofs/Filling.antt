@@ -58,7 +58,8 @@ pub greatest_is : (P : ℕ → Type 0) (a : ℕ) (ns : List ℕ) → P a → Eac
 greatest_is P a [] pa each = pa
 greatest_is P a (n ∷ ns) pa each = greatest_is P (max a n) ns (max_is P a n pa each.0) each.1
 
-differ_join : {X : Type 0} (xs ys : List X) → Differ xs → Differ ys → ((x y : X) → Member x xs → Member y ys → x ≡ y → ⊥) → Differ (xs ++ ys)
+differ_join : {X : Type 0} (xs ys : List X) → Differ xs → Differ ys → ((x y : X) → Member x xs → Member y ys → x ≡ y → ⊥)
+    → Differ (xs ++ ys)
 differ_join [] ys a b apart = b
 differ_join (x ∷ xs) ys a b apart = (
   each_join (λ y. x ≡ y → ⊥) xs ys a.0 (each_of (λ y. x ≡ y → ⊥) ys (λ y m. apart x y (inl refl) m)),
@@ -210,7 +211,8 @@ module _ (e : Ext) (o : Options) (x : List ℕ) (h : Solved e o x) where
           omega (arith, own, same)) s.each);
     }
 
-    wider : (tag : Option Op → ℕ) (from to low high : ℕ) → low ≤ from → to ≤ high → (q : Placed) → Other tag from to q → Other tag low high q
+    wider : (tag : Option Op → ℕ) (from to low high : ℕ) → low ≤ from → to ≤ high → (q : Placed) → Other tag from to q
+        → Other tag low high q
     wider tag from to low high below above q p = let least = p.least in let greatest = p.greatest in record {
       member = p.member;
       passes = p.passes;

@@ -137,7 +137,8 @@ tag (Some LeaveOp) = 5
 tag _ = 0
 
 -- what comes no earlier than a Reload
-pub leave_after : (a b : Option Op) (c d : ℕ) → a ≡ Some Reload → b ≡ Some LeaveOp → IfSome (frame_distance a b) (λ (n : ℕ). c + n ≤ d) → c ≤ d
+pub leave_after : (a b : Option Op) (c d : ℕ) → a ≡ Some Reload → b ≡ Some LeaveOp
+    → IfSome (frame_distance a b) (λ (n : ℕ). c + n ≤ d) → c ≤ d
 leave_after a b c d f g h =
     let le : c + 0 ≤ d = subst (λ (z : Option Op). IfSome (frame_distance (Some Reload) z) (λ (n : ℕ). c + n ≤ d)) g
     (subst (λ (z : Option Op). IfSome (frame_distance z b) (λ (n : ℕ). c + n ≤ d)) f h) in

@@ -38,7 +38,8 @@ use Rattle.un_length.specs.BlockLaws.{fits_holds}
 use Rattle.un_kinds.specs.Constraints.{Constraint, AllMet, Before, meets}
 use Rattle.un_sites.specs.Befores.{arc_before, befores_in, known_befores, length_in, lengths_of}
 use Rattle.un_sites.specs.CallBefores.{call_befores_by}
-use Rattle.un_sites.specs.Lengths.{is_task, tail_of, call_head, call_tail, cycles_in, var_in, task_of, tasks_in, task_place, precedence_by, precedences_by}
+use Rattle.un_sites.specs.Lengths.{is_task, tail_of, call_head, call_tail, cycles_in, var_in, task_of, tasks_in, task_place}
+use Rattle.un_sites.specs.Lengths.{precedence_by, precedences_by}
 use Rattle.un_sites.specs.Lengths.{length_by}
 use Rattle.un_sites.specs.Places.{Place, act_by, time_by, places_of}
 use Rattle.un_sites.specs.Postings.{issue_by, issues_in, with_kind}
