@@ -1,7 +1,7 @@
 -- Laws of the ends that are noted beside sets.
-use Rattle.std.proofs.Common.{ℕ, ◌≡◌, ◌≢◌, ◌<◌, ◌≤◌, ◌+◌, ◌-◌, ◌*◌, ◌^◌, zero, suc, ◌⊎◌, Bool, true, false, not, ◌&&◌, List, [], ◌∷◌, ◌++◌}
-use Rattle.std.proofs.Common.{length, get_or, set, map, filter, nat_eq, nat_lt, nat_le, Ok, Err, OnOk, OnErr, refl, sym, ap, ◌∙◌, subst, arith, inl, inr}
-use Rattle.std.proofs.lemmas.List.{get_or_append_left, get_or-set_same, get_or-set_other, get_or-map, length-map, length-set, length_push}
+use Rattle.std.proofs.Common.{ℕ, ◌≡◌, ◌≢◌, ◌<◌, ◌≤◌, ◌+◌, ◌-◌, ◌*◌, ◌^◌, ◌⊎◌, Bool, true, false, not, List, [], ◌∷◌, ◌++◌}
+use Rattle.std.proofs.Common.{length, get_or, set, filter, nat_eq, nat_lt, nat_le, Ok, Err, OnOk, OnErr, refl, sym, ap, ◌∙◌, subst, arith, inl, inr}
+use Rattle.std.proofs.lemmas.List.{get_or_append_left, get_or-set_same, get_or-set_other, get_or-map, length-map, length-set, length_push, set-get_or}
 use Rattle.std.proofs.Math.Seq.{get_or-append_seam}
 use Rattle.std.proofs.lemmas.Bool.{cases_lt}
 use Rattle.std.proofs.lemmas.Bool.Decides.{nat_tests}
@@ -11,12 +11,14 @@ use Rattle.un_domains.specs.Domains.{value_at, values_of, IsDomain}
 use Rattle.un_domains.specs.Levels.{MarkedWords}
 use Rattle.un_domains.specs.Sets.{Sets, set_at, has, least, greatest, NoneEmpty}
 use Rattle.un_domains.specs.SetLaws.{same_or_not, least-le, has-fold_max}
-use Rattle.un_domains.specs.OrderLaws.{same_test}
-use Rattle.un_domains.specs.ShapeLaws.{bounds_some, bounds_lt, least_value, greatest_value, laid_at, domain_at, cut_store, cut_is}
+use Rattle.un_domains.specs.OrderLaws.{filter_all, same_test}
+use Rattle.un_domains.specs.ShapeLaws.{bounds_some, bounds_lt, least_value, greatest_value, laid_at, cut_store, cut_is}
 use Rattle.un_domains.specs.ShapeLaws.{mark_store, undo_store, spread_all}
 use Rattle.un_domains.specs.Shapes.{places_of, row_of, set_of, sets_of, IsLaid, IsStore, IsPlacesCut}
 use Rattle.un_domains.specs.Noted.{AreEnds, AreNoted, AreNotedAll, IsNote, IsWhole}
+use Rattle.un_domains.specs.Cuts.{Contents, IsCut}
 use Rattle.un_domains.specs.declared.cut.Cut.{Cut}
+use Rattle.un_domains.specs.declared.cut.Cut.TheVariants.{Same}
 use Rattle.un_domains.specs.declared.shape.Shape.{Shape}
 
 -- ---- the ends of a set in words
@@ -71,8 +73,11 @@ noted_more s es xs a b noted ends = record {
         let at : (j : ℕ) → j < length es → get_or ((es ++ a ∷ []) ++ b ∷ []) j 0 ≡ get_or es j 0 =
         λ j lt. get_or_append_left (es ++ a ∷ []) (b ∷ []) 0 j (omega (arith, lt, length_push es a))
         ∙ get_or_append_left es (a ∷ []) 0 j lt in
-        rw (get_or_append_left s (xs ∷ []) [] v below, at (2 * v) (omega (arith, below, noted.long)),
-        at (2 * v + 1) (omega (arith, below, noted.long))) (noted.each v below)
+        rw (
+          get_or_append_left s (xs ∷ []) [] v below,
+          at (2 * v) (omega (arith, below, noted.long)),
+          at (2 * v + 1) (omega (arith, below, noted.long)),
+        ) (noted.each v below)
 
     last : (v : ℕ) → v ≡ length s
         → AreEnds (set_at (s ++ xs ∷ []) v) (get_or ((es ++ a ∷ []) ++ b ∷ []) (2 * v) 0) (get_or ((es ++ a ∷ []) ++ b ∷ []) (2 * v + 1) 0)
@@ -301,3 +306,47 @@ whole_undo hs ws us es fs whole marked marked' = record {
   store = (undo_store hs ws us marked whole.store).0;
   noted = noted_undo hs ws us es fs whole.noted marked marked';
 }
+
+-- ---- cuts that lose nothing
+
+-- all values that are there pass
+same_cut : (p : ℕ → Bool) (v : ℕ) (c : Contents) → v < length c.sets → 0 < length (set_at c.sets v)
+    → ((y : ℕ) → has (set_at c.sets v) y ≡ true → p y ≡ true) → IsCut p v c c Same
+same_cut p v c below some passes = record {
+  sets = sym (ap (set c.sets v) (filter_all (set_at c.sets v) p passes) ∙ set-get_or c.sets v []);
+  marked = refl;
+  emptied = (λ x. absurd (cc x), λ none. absurd (omega (arith, none, some)));
+  same = (λ x. (some, refl), λ x. refl);
+}
+
+module _ (v : ℕ) (c : Contents) (below : v < length c.sets) (a b x : ℕ) (ends : AreEnds (set_at c.sets v) a b) where
+  some_between : a ≤ b → 0 < length (set_at c.sets v)
+  some_between le = elim (cases_lt 0 (length (set_at c.sets v))) [
+    | inl lt ↦ lt
+    | inr none ↦ absurd (let z = ends.none (omega (arith, none)) in omega (arith, le, z.0, z.1))
+  ]
+
+  low : (y : ℕ) → has (set_at c.sets v) y ≡ true → a ≤ y
+  low y t = let s = ends.some (some_of_has (set_at c.sets v) y t) in let le = least-le (set_at c.sets v) y t in omega (arith, s.0, le)
+
+  high : (y : ℕ) → has (set_at c.sets v) y ≡ true → y ≤ b
+  high y t = let s = ends.some (some_of_has (set_at c.sets v) y t) in let le = has-fold_max 0 (set_at c.sets v) y t in omega (arith, s.1, le)
+
+  pub same_le : a ≤ b → b ≤ x → IsCut (λ y. nat_le y x) v c c Same
+  same_le le last = same_cut (λ y. nat_le y x) v c below (some_between le)
+      (λ y t. let top = high y t in grind (arith, nat_tests, top, last))
+
+  pub same_gt : a ≤ b → x < a → IsCut (λ y. nat_lt x y) v c c Same
+  same_gt le first = same_cut (λ y. nat_lt x y) v c below (some_between le)
+      (λ y t. let bottom = low y t in grind (arith, nat_tests, bottom, first))
+
+  pub same_eq : a ≡ b → a ≡ x → IsCut (λ y. nat_eq y x) v c c Same
+  same_eq one is = same_cut (λ y. nat_eq y x) v c below (some_between (omega (arith, one)))
+      (λ y t. let bottom = low y t in let top = high y t in grind (arith, nat_tests, bottom, top, one, is))
+
+  pub same_drop : 0 < length (set_at c.sets v) → (x < a) ⊎ (b < x) → IsCut (λ y. not (nat_eq y x)) v c c Same
+  same_drop some out = same_cut (λ y. not (nat_eq y x)) v c below some (λ y t. passes y (low y t) (high y t) out)
+    where
+      passes : (y : ℕ) → a ≤ y → y ≤ b → (x < a) ⊎ (b < x) → not (nat_eq y x) ≡ true
+      passes y bottom top (inl lt) = let t : nat_eq y x ≡ false = grind (arith, nat_tests, bottom, lt) in ap not t
+      passes y bottom top (inr gt) = let t : nat_eq y x ≡ false = grind (arith, nat_tests, top, gt) in ap not t

@@ -226,6 +226,10 @@ impl Store {
         requires { v.0 < length self.old.sets }
         ensures { IsCut (λ y. nat_le y x) v.0 self.old self.new result }
     {
+        let (least, greatest) = ends_at(&self.noted, v);
+        if least <= greatest && greatest <= x as u64 {
+            return Cut::Same;
+        }
         let shape = &self.shapes[v.0 as usize];
         let k = places_to(&shape.first, x);
         let cut = keep_before(&mut self.words, shape.at, shape.n, k);
@@ -238,6 +242,10 @@ impl Store {
         requires { v.0 < length self.old.sets }
         ensures { IsCut (λ y. nat_lt x y) v.0 self.old self.new result }
     {
+        let (least, greatest) = ends_at(&self.noted, v);
+        if least <= greatest && (x as u64) < least {
+            return Cut::Same;
+        }
         let shape = &self.shapes[v.0 as usize];
         let k = places_to(&shape.first, x);
         let cut = keep_from(&mut self.words, shape.at, shape.n, k);
@@ -250,6 +258,10 @@ impl Store {
         requires { v.0 < length self.old.sets }
         ensures { IsCut (λ y. nat_eq y x) v.0 self.old self.new result }
     {
+        let (least, greatest) = ends_at(&self.noted, v);
+        if least == greatest && least == x as u64 {
+            return Cut::Same;
+        }
         let shape = &self.shapes[v.0 as usize];
         let k = place_of(&shape.first, x);
         let cut = keep_only(&mut self.words, shape.at, shape.n, k);
@@ -263,6 +275,13 @@ impl Store {
         requires some { 0 < length (set_at self.old.sets v.0) }
         ensures { IsCut (λ y. not (nat_eq y x)) v.0 self.old self.new result }
     {
+        let (least, greatest) = ends_at(&self.noted, v);
+        if (x as u64) < least {
+            return Cut::Same;
+        }
+        if greatest < x as u64 {
+            return Cut::Same;
+        }
         let shape = &self.shapes[v.0 as usize];
         let k = place_of(&shape.first, x);
         let cut = drop_place(&mut self.words, shape.at, shape.n, k);

@@ -1,8 +1,8 @@
-use Rattle.std.proofs.Common.{◌<◌, arith, ap, subst, length, map, nat_eq, not}
+use Rattle.std.proofs.Common.{inl, inr, ◌<◌, arith, ap, subst, length, map, nat_eq, not}
 use Rattle.std.proofs.lemmas.List.{length-map}
 use Rattle.un_domains.specs.Cuts.{Contents, IsCut}
 use Rattle.un_domains.specs.Shapes.{set_of, sets_of}
-use Rattle.un_domains.specs.NotedLaws.{ends_there, laid_after, whole_after}
+use Rattle.un_domains.specs.NotedLaws.{ends_there, ends_are, same_drop, laid_after, whole_after}
 use Rattle.un_domains.specs.ShapeLaws.{laid_at, domain_at, cut_is, places_some}
 use Rattle.un_domains.proofs.store.Store.drop_value.Goals as goal
 
@@ -131,3 +131,25 @@ drop_place-cut-requires-clause-within c =
       length-map a.shapes.items (set_of a.words.words),
     ) in
     (laid_at a.shapes.items a.words.words a.words.marked c.self.invariant.store c.args.v.0 h below c.index-shape.ensures).within
+
+pub ends_at-least-requires : goal.ends_at-least-requires
+ends_at-least-requires c =
+    let a = c.self.inside in
+    let sets = ap (λ (s : Contents). s.sets) c.self.view_is in
+    ends_there a.shapes.items a.words a.noted c.self.invariant c.args.self.now.sets sets c.args.v.0 c.requires.there
+
+pub returns-then-x-least : goal.returns-then-x-least
+returns-then-x-least c =
+    let a = c.self.inside in
+    let sets = ap (λ (s : Contents). s.sets) c.self.view_is in
+    let ends = ends_are a.shapes.items a.words a.noted c.self.invariant c.args.self.now.sets sets c.args.v.0 c.requires.there in
+    let e = c.ends_at-least.ensures in
+    same_drop c.args.v.0 c.args.self.now c.requires.there _ _ c.args.x ends c.requires.some (inl (omega (arith, c.if-x-least.true, e.least)))
+
+pub returns-then-greatest-x : goal.returns-then-greatest-x
+returns-then-greatest-x c =
+    let a = c.self.inside in
+    let sets = ap (λ (s : Contents). s.sets) c.self.view_is in
+    let ends = ends_are a.shapes.items a.words a.noted c.self.invariant c.args.self.now.sets sets c.args.v.0 c.requires.there in
+    let e = c.ends_at-least.ensures in
+    same_drop c.args.v.0 c.args.self.now c.requires.there _ _ c.args.x ends c.requires.some (inr (omega (arith, c.if-greatest-x.true, e.greatest)))

@@ -3,7 +3,7 @@ use Rattle.std.proofs.lemmas.List.{length-map}
 use Rattle.un_domains.specs.Cuts.{Contents, IsCut}
 use Rattle.un_domains.specs.Domains.{value_at}
 use Rattle.un_domains.specs.Shapes.{set_of, sets_of}
-use Rattle.un_domains.specs.NotedLaws.{ends_there, laid_after, whole_after}
+use Rattle.un_domains.specs.NotedLaws.{ends_there, ends_are, same_gt, laid_after, whole_after}
 use Rattle.un_domains.specs.ShapeLaws.{laid_at, domain_at, cut_is, turned}
 use Rattle.un_domains.proofs.store.Store.keep_gt.Goals as goal
 
@@ -101,3 +101,17 @@ keep_from-cut-requires-clause-within c =
     let below : c.args.v.0 < length a.shapes.items =
     omega (arith, c.requires, ap (λ (s : Contents). length s.sets) c.self.view_is, length-map a.shapes.items (set_of a.words.words)) in
     (laid_at a.shapes.items a.words.words a.words.marked c.self.invariant.store c.args.v.0 h below c.index-shape.ensures).within
+
+pub ends_at-least-requires : goal.ends_at-least-requires
+ends_at-least-requires c =
+    let a = c.self.inside in
+    let sets = ap (λ (s : Contents). s.sets) c.self.view_is in
+    ends_there a.shapes.items a.words a.noted c.self.invariant c.args.self.now.sets sets c.args.v.0 c.requires
+
+pub returns-then-x-least : goal.returns-then-x-least
+returns-then-x-least c =
+    let a = c.self.inside in
+    let sets = ap (λ (s : Contents). s.sets) c.self.view_is in
+    let ends = ends_are a.shapes.items a.words a.noted c.self.invariant c.args.self.now.sets sets c.args.v.0 c.requires in
+    let e = c.ends_at-least.ensures in
+    same_gt c.args.v.0 c.args.self.now c.requires _ _ c.args.x ends (omega (arith, c.if-least-greatest.true, e.least, e.greatest)) (omega (arith, c.if-x-least.true, e.least))

@@ -1,4 +1,4 @@
-use Rattle.std.proofs.Common.{◌+◌, ◌<◌, ◌∙◌, subst, sym, ap, arith}
+use Rattle.std.proofs.Common.{◌∙◌, subst, sym, ap, arith}
 use Rattle.un_domains.specs.Cuts.{Contents}
 use Rattle.un_domains.specs.Sets.{NoneEmpty}
 use Rattle.un_domains.specs.NotedLaws.{whole_mark}
