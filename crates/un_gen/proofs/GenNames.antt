@@ -11,6 +11,7 @@ use Rattle.std.proofs.lemmas.Slice.Eq.{bytes_eq-Decides}
 use Rattle.un_base.specs.Names.{is_name, is_rest}
 use Rattle.un_ir.specs.declared.function.Kind.{Kind}
 use Rattle.un_ir.specs.declared.function.Kind.TheVariants.{General}
+use Rattle.un_ir.specs.declared.function.TheConstants.{BLOCKS}
 use Rattle.un_ir.specs.Names.{kind_of}
 use Rattle.un_ir.specs.WellFormed.{IsName, Names}
 use Rattle.un_gen.specs.Generated.{all_names, word, label_of}
@@ -92,11 +93,11 @@ is_label ds short rest =
     let fits : nat_le (suc (length ds)) 32 ≡ true = le-leb (suc (length ds)) 32 (omega arith) in
     rw (some, fits, rest) refl
 
-pub label_named : (b : ℕ) → b < 16 → IsName (label_of b)
+pub label_named : (b : ℕ) → b < BLOCKS → IsName (label_of b)
 label_named b h =
     is_label (decimal b) (length-decimal-le 2 b (omega arith) (omega arith) (omega arith)) (rest_digits b (omega arith))
 
-pub labels_apart : (a b : ℕ) → a < b → b < 16 → label_of a ≢ label_of b
+pub labels_apart : (a b : ℕ) → a < b → b < BLOCKS → label_of a ≢ label_of b
 labels_apart a b low high e =
     let digits : decimal a ≡ decimal b = cc e in
     let same : a ≡ b = decimal_injective a b (omega arith) (omega arith) digits in

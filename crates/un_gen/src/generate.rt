@@ -62,7 +62,7 @@ fn all_params(alloc: Global) -> Result<Items<NameId>, NoMemory>
     Ok(Items::from_vec(param_vec(alloc)?))
 }
 
-/// The function of so many blocks, 1 to 16, that a seed generates: `gen`, with four parameters. Its first block assigns all other names;
+/// The function of so many blocks, 1 to `BLOCKS`, that a seed generates: `gen`, with four parameters. Its first block assigns all other names;
 /// each other one has a frequency from 1 to 1000 and four operations, and goes on at the next one or at one of those behind the first.
 ///
 /// # Errors
