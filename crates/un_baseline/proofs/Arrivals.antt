@@ -23,6 +23,7 @@ use Rattle.un_ir.specs.declared.extended.Ext.{Ext}
 use Rattle.un_ir.specs.declared.extended.Growth.{Growth}
 use Rattle.un_ir.specs.declared.extended.Value.{Value}
 use Rattle.un_ir.specs.declared.extended.Sort.{Sort}
+use Rattle.un_ir.specs.declared.extended.TheConstants.{RELOAD, TO_PREDICATE}
 use Rattle.un_ir.specs.Extended.{temp}
 use Rattle.un_ir.specs.Linear.{first_of}
 use Rattle.un_ir.specs.ExtendOf.{copy_op, copy_count, with_operand_by, with_operand, with_operands, new_operands, chosen_from}
@@ -35,7 +36,7 @@ use Rattle.un_model.specs.Solutions.{InSpace}
 use Rattle.un_baseline.specs.declared.plan.Purpose.TheVariants.{Operands}
 use Rattle.un_baseline.specs.declared.plan.Setting.{Setting}
 use Rattle.un_baseline.specs.declared.plan.Progress.{Progress}
-use Rattle.un_baseline.specs.declared.plan.TheConstants.{RELOAD, TO_PREDICATE, PREDICATE}
+use Rattle.un_baseline.specs.declared.plan.TheConstants.{PREDICATE}
 use Rattle.un_baseline.specs.Plans.{Step, planned_read}
 use Rattle.un_baseline.specs.SpillEverywhere.{purpose_at, last_place, kept_place, operand_place, copies_of}
 use Rattle.un_baseline.proofs.Carried.{Carries, carries_operand, chosen_last, arrived_general, arrived_pred}

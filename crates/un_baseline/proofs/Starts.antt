@@ -21,6 +21,7 @@ use Rattle.un_ir.specs.declared.extended.ExtBlock.{ExtBlock}
 use Rattle.un_ir.specs.declared.extended.Ext.{Ext}
 use Rattle.un_ir.specs.declared.extended.Growth.{Growth}
 use Rattle.un_ir.specs.declared.extended.Sort.{Sort}
+use Rattle.un_ir.specs.declared.extended.TheConstants.{SPILL}
 use Rattle.un_ir.specs.Extended.{temp, name_kind}
 use Rattle.un_ir.specs.ExtendOf.{copy_op, copy_count, own_temps, value_of, with_value, with_values, sort_of_name}
 use Rattle.un_model.specs.declared.schedule.Issue.{Issue}
@@ -33,7 +34,6 @@ use Rattle.un_model.specs.Solutions.{InSpace}
 use Rattle.un_baseline.specs.declared.plan.Definer.TheVariants.{Start, Other}
 use Rattle.un_baseline.specs.declared.plan.Setting.{Setting}
 use Rattle.un_baseline.specs.declared.plan.Progress.{Progress}
-use Rattle.un_baseline.specs.declared.plan.TheConstants.{SPILL}
 use Rattle.un_baseline.specs.Plans.{Step, planned_issue}
 use Rattle.un_baseline.specs.SpillEverywhere.{purpose_at, slot_of, slot_at_start, start_register, spilled_to, first_copy, second_copy}
 use Rattle.un_baseline.specs.SpillEverywhere.{no_move, other_progress, steps_of}

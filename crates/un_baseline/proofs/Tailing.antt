@@ -16,6 +16,7 @@ use Rattle.un_ir.specs.declared.extended.Operand.{Operand}
 use Rattle.un_ir.specs.declared.extended.ExtOp.{ExtOp}
 use Rattle.un_ir.specs.declared.extended.ExtBlock.{ExtBlock}
 use Rattle.un_ir.specs.declared.extended.Ext.{Ext}
+use Rattle.un_ir.specs.declared.extended.TheConstants.{RELOAD}
 use Rattle.un_ir.specs.ExtendOf.{copy_op, frame_op}
 use Rattle.un_model.specs.declared.schedule.Issue.{Issue}
 use Rattle.un_model.specs.declared.schedule.Read.{Read}
@@ -27,7 +28,6 @@ use Rattle.un_baseline.specs.declared.plan.Purpose.{Purpose}
 use Rattle.un_baseline.specs.declared.plan.Definer.TheVariants.{Other}
 use Rattle.un_baseline.specs.declared.plan.Setting.{Setting}
 use Rattle.un_baseline.specs.declared.plan.Progress.{Progress}
-use Rattle.un_baseline.specs.declared.plan.TheConstants.{RELOAD}
 use Rattle.un_baseline.specs.Plans.{Step, planned_issue, planned_read, planned_reads_by}
 use Rattle.un_baseline.specs.SpillEverywhere.{purpose_at, move, copy_move, next_cycle, leave_cycle, end_cycle, after_end, operand_place}
 use Rattle.un_baseline.specs.SpillEverywhere.{other_progress, steps_of}
