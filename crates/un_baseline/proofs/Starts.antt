@@ -10,6 +10,7 @@ use Rattle.un_base.specs.declared.ids.NameId.{NameId}
 use Rattle.un_base.specs.declared.ids.TempId.{TempId}
 use Rattle.un_isa.specs.declared.op.Op.{Op}
 use Rattle.un_isa.specs.declared.op.Op.TheVariants.{Call, Spill}
+use Rattle.un_isa.specs.declared.reg.TheConstants.{FIRST_SLOT}
 use Rattle.un_isa.specs.Fit.{IsFit}
 use Rattle.un_isa.specs.Tables.{latency_of}
 use Rattle.un_ir.specs.declared.function.Kind.{Kind}
@@ -375,7 +376,7 @@ module _ (c : ℕ) (H : Seen → List Read → Type 0) (b end : ℕ) (e : Ext) (
   saved_link v is = let z : (v + 1 == s.values) ≡ true = grind (arith, nat_tests) in rw z refl
 
   pub link_spills : (cnt j m n : ℕ) (p : Progress) (seen : Seen) (g : Growth) (rest : List ExtOp) → p.definer ≡ Start → p.values ≡ j
-      → ((i : ℕ) → slice_get block.live_in (j + i) ≡ None) → j + cnt + 1 ≡ s.values → 36 ≤ s.link → InLow (m + cnt) seen
+      → ((i : ℕ) → slice_get block.live_in (j + i) ≡ None) → j + cnt + 1 ≡ s.values → FIRST_SLOT ≤ s.link → InLow (m + cnt) seen
       → Front c b p.cycle seen → length seen.made ≡ g.next
       → ((n' : ℕ) (p' : Progress) (seen' : Seen) → p.cycle ≤ p'.cycle → p'.operands ≡ p.operands → LinkSpilled cnt g p'.cycle seen seen'
       → G n' p' seen' rest)
