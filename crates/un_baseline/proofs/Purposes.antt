@@ -1,5 +1,5 @@
 -- What copies are for, read off a list from some place on.
-use Rattle.std.proofs.Common.{◌≡◌, ℕ, ◌+◌, ◌≤◌, true, false, List, [], Some, length, drop, refl, sym, ap, ◌∙◌}
+use Rattle.std.proofs.Common.{◌≡◌, ℕ, ◌+◌, ◌≤◌, true, false, List, Some, length, drop, refl, sym, ap, ◌∙◌}
 use Rattle.std.specs.Prelude.{slice_get}
 use Rattle.un_ir.specs.Extended.{is_copy}
 use Rattle.un_ir.specs.declared.function.Term.{Term}
