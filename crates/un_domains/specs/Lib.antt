@@ -8,6 +8,8 @@ pub mod Domains
 pub mod LevelLaws
 pub mod Levels
 pub mod MemberLaws
+pub mod Noted
+pub mod NotedLaws
 pub mod Order
 pub mod OrderLaws
 pub mod SetLaws

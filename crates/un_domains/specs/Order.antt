@@ -1,5 +1,5 @@
 -- The order of stores.
-use Rattle.std.specs.Prelude.{ℕ, ◌≡◌, List, length, filter}
+use Rattle.std.specs.Prelude.{ℕ, ◌≡◌, length, filter}
 use Rattle.un_domains.specs.Sets.{Sets, set_at, has}
 
 -- each set of t is what t has of the set of s: t lies within s, and has its values in the same order

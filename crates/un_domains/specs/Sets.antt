@@ -1,6 +1,6 @@
 -- What a store holds: a set of numbers for each variable.
-use Rattle.std.specs.Prelude.{ℕ, ◌≡◌, ◌<◌, ◌≤◌, Bool, true, List, [], ◌∷◌, length, slice_index, slice_index_or, slice_set, filter, nat_eq}
-use Rattle.std.specs.Prelude.{fold, min, max, sum_by, cond, None, Some, MatchOption, ⊤}
+use Rattle.std.specs.Prelude.{ℕ, ◌≡◌, ◌<◌, Bool, true, List, [], ◌∷◌, length, slice_index, slice_index_or, slice_set, filter, nat_eq}
+use Rattle.std.specs.Prelude.{fold, min, max, sum_by, cond, None, Some, MatchOption}
 use Rattle.std.specs.declared.option.Option.{Option}
 use Rattle.std.specs.List.{list_any}
 

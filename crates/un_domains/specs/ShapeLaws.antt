@@ -17,10 +17,10 @@ use Rattle.std.proofs.lemmas.List.Elements.{recursion_from_All, All-from_recursi
 use Rattle.un_domains.specs.declared.domain.Domain.{Domain}
 use Rattle.un_domains.specs.Domains.{values_of, value_at, IsDomain}
 use Rattle.un_domains.specs.Levels.{MarkedWords}
-use Rattle.un_domains.specs.Sets.{Sets, set_at, kept, has, NoneEmpty, least, greatest}
+use Rattle.un_domains.specs.Sets.{Sets, set_at, has, NoneEmpty, least, greatest}
 use Rattle.un_domains.specs.CountLaws.{le_width, one_place}
 use Rattle.un_domains.specs.CutLaws.{filter_whole}
-use Rattle.un_domains.specs.Cuts.{Contents, IsCut}
+use Rattle.un_domains.specs.Cuts.{IsCut}
 use Rattle.un_domains.specs.declared.cut.Cut.{Cut}
 use Rattle.un_domains.specs.declared.cut.Cut.TheVariants.{Same, Changed, Emptied}
 use Rattle.un_domains.specs.SetLaws.{same_or_not, has-cons, has-filter, least-le, has-fold_max}

@@ -4,6 +4,7 @@
 pub mod bounds;
 pub mod cut;
 pub mod domain;
+pub mod ends;
 pub mod levels;
 pub mod places;
 pub mod rows;

@@ -11,7 +11,8 @@ ghost use Rattle.un_domains.specs.ShapeLaws.{IsAdded};
 use crate::bounds::has;
 use crate::cut::Cut;
 use crate::domain::Domain;
-use crate::places::{count, place_of, places_to, value_at};
+use crate::ends::{all_ends, ends_at, note};
+use crate::places::{count, place_of, places_to};
 use crate::rows::{bounds_at, count_at, drop_place, keep_before, keep_from, keep_only, row};
 use crate::scan::WORD;
 use crate::shape::Shape;
@@ -26,24 +27,27 @@ const MOST_MARKS: usize = u32::MAX as usize;
 
 /// A set of values for each variable, and the sets of each mark. Contracts see the lists of the values, rising. The store
 /// has failed where some set is empty. A set is the bounds and the bits of the places in the variable's first domain: a
-/// look at a bound costs nothing more, a cut costs the words that it passes.
+/// cut costs the words that it passes. The least and the greatest value of each variable are noted beside the sets, so that a
+/// look at them costs a word.
 #[derive(Drop)]
 pub struct Store {
     alloc: Global,
     shapes: Vec<Shape>,
     words: Words,
+    noted: Words,
 }
 
 impl Model for Store {
     ghost use Rattle.std.specs.Prelude.{map};
     ghost use Rattle.un_domains.specs.Cuts.{Contents};
-    ghost use Rattle.un_domains.specs.Shapes.{sets_of, IsStore};
+    ghost use Rattle.un_domains.specs.Noted.{IsWhole};
+    ghost use Rattle.un_domains.specs.Shapes.{sets_of};
 
     ghost Value = { Contents };
 
     ghost view = { λ a. record { sets = sets_of a.shapes.items a.words.words; marked = map (sets_of a.shapes.items) a.words.marked } };
 
-    ghost invariant = { λ a. IsStore a.shapes.items a.words.words a.words.marked };
+    ghost invariant = { λ a. IsWhole a.shapes.items a.words a.noted };
 }
 
 /// As many words, with all their bits.
@@ -118,10 +122,12 @@ impl Store {
         let mut words = Vec::new(alloc);
         let mut shapes = Vec::new(alloc);
         lay(domains, &mut shapes, &mut words)?;
+        let noted = all_ends(alloc, words.as_slice(), shapes.as_slice())?;
         Ok(Store {
             alloc,
             shapes,
             words: Words::new(alloc, words),
+            noted: Words::new(alloc, noted),
         })
     }
 
@@ -151,9 +157,8 @@ impl Store {
         requires some { 0 < length (set_at self.now.sets v.0) }
         ensures { result ≡ least (set_at self.now.sets v.0) }
     {
-        let shape = &self.shapes[v.0 as usize];
-        let bounds = bounds_at(self.words.as_slice(), shape.at);
-        value_at(&shape.first, bounds.lo)
+        let (least, _) = ends_at(&self.noted, v);
+        least as u32
     }
 
     /// The greatest value of `v`.
@@ -162,9 +167,8 @@ impl Store {
         requires some { 0 < length (set_at self.now.sets v.0) }
         ensures { result ≡ greatest (set_at self.now.sets v.0) }
     {
-        let shape = &self.shapes[v.0 as usize];
-        let bounds = bounds_at(self.words.as_slice(), shape.at);
-        value_at(&shape.first, bounds.end - 1)
+        let (_, greatest) = ends_at(&self.noted, v);
+        greatest as u32
     }
 
     /// How many values `v` has, counted word by word.
@@ -176,14 +180,13 @@ impl Store {
         count_at(self.words.as_slice(), shape.at, shape.n) as u32
     }
 
-    /// Whether `v` has one value and no other, by a look at its bounds.
+    /// Whether `v` has one value and no other, by a look at its ends.
     pub fn is_single(&self, v: VarId) -> bool
         requires { v.0 < length self.now.sets }
         ensures { result ≡ nat_eq (length (set_at self.now.sets v.0)) 1 }
     {
-        let shape = &self.shapes[v.0 as usize];
-        let bounds = bounds_at(self.words.as_slice(), shape.at);
-        bounds.lo + 1 == bounds.end
+        let (least, greatest) = ends_at(&self.noted, v);
+        least == greatest
     }
 
     /// Whether `x` is a value of `v`.
@@ -191,6 +194,13 @@ impl Store {
         requires { v.0 < length self.now.sets }
         ensures { result ≡ has (set_at self.now.sets v.0) x }
     {
+        let (least, greatest) = ends_at(&self.noted, v);
+        if (x as u64) < least {
+            return false;
+        }
+        if greatest < x as u64 {
+            return false;
+        }
         let shape = &self.shapes[v.0 as usize];
         let k = place_of(&shape.first, x);
         let words = self.words.as_slice();
@@ -202,9 +212,15 @@ impl Store {
         requires { v.0 < length self.old.sets }
         ensures { IsCut (λ y. nat_le y x) v.0 self.old self.new result }
     {
+        let (least, greatest) = ends_at(&self.noted, v);
+        if least <= greatest && greatest <= x as u64 {
+            return Cut::Same;
+        }
         let shape = &self.shapes[v.0 as usize];
         let k = places_to(&shape.first, x);
-        keep_before(&mut self.words, shape.at, shape.n, k)
+        let cut = keep_before(&mut self.words, shape.at, shape.n, k);
+        note(&mut self.noted, v, self.words.as_slice(), shape);
+        cut
     }
 
     /// Keeps the values of `v` that are greater than `x`. It takes no memory.
@@ -212,9 +228,15 @@ impl Store {
         requires { v.0 < length self.old.sets }
         ensures { IsCut (λ y. nat_lt x y) v.0 self.old self.new result }
     {
+        let (least, greatest) = ends_at(&self.noted, v);
+        if least <= greatest && (x as u64) < least {
+            return Cut::Same;
+        }
         let shape = &self.shapes[v.0 as usize];
         let k = places_to(&shape.first, x);
-        keep_from(&mut self.words, shape.at, shape.n, k)
+        let cut = keep_from(&mut self.words, shape.at, shape.n, k);
+        note(&mut self.noted, v, self.words.as_slice(), shape);
+        cut
     }
 
     /// Keeps `x` alone of the values of `v`. It takes no memory.
@@ -222,9 +244,15 @@ impl Store {
         requires { v.0 < length self.old.sets }
         ensures { IsCut (λ y. nat_eq y x) v.0 self.old self.new result }
     {
+        let (least, greatest) = ends_at(&self.noted, v);
+        if least == greatest && least == x as u64 {
+            return Cut::Same;
+        }
         let shape = &self.shapes[v.0 as usize];
         let k = place_of(&shape.first, x);
-        keep_only(&mut self.words, shape.at, shape.n, k)
+        let cut = keep_only(&mut self.words, shape.at, shape.n, k);
+        note(&mut self.noted, v, self.words.as_slice(), shape);
+        cut
     }
 
     /// Takes `x` from the values of `v`. It takes no memory.
@@ -233,9 +261,18 @@ impl Store {
         requires some { 0 < length (set_at self.old.sets v.0) }
         ensures { IsCut (λ y. not (nat_eq y x)) v.0 self.old self.new result }
     {
+        let (least, greatest) = ends_at(&self.noted, v);
+        if (x as u64) < least {
+            return Cut::Same;
+        }
+        if greatest < x as u64 {
+            return Cut::Same;
+        }
         let shape = &self.shapes[v.0 as usize];
         let k = place_of(&shape.first, x);
-        drop_place(&mut self.words, shape.at, shape.n, k)
+        let cut = drop_place(&mut self.words, shape.at, shape.n, k);
+        note(&mut self.noted, v, self.words.as_slice(), shape);
+        cut
     }
 
     /// How many marks there are.
@@ -256,7 +293,11 @@ impl Store {
         if self.words.marks() >= MOST_MARKS {
             return Err(NoMemory);
         }
-        self.words.mark(self.alloc)?;
+        self.noted.mark(self.alloc)?;
+        if self.words.mark(self.alloc).is_err() {
+            self.noted.undo();
+            return Err(NoMemory);
+        }
         Ok(())
     }
 
@@ -267,6 +308,7 @@ impl Store {
         ensures live { NoneEmpty self.new.sets }
     {
         self.words.undo();
+        self.noted.undo();
     }
 
     /// A store with the same sets, and without marks.
@@ -276,10 +318,12 @@ impl Store {
     {
         let shapes = copy_shapes(alloc, self.shapes.as_slice())?;
         let words = self.words.as_slice().to_vec(alloc)?;
+        let noted = self.noted.as_slice().to_vec(alloc)?;
         Ok(Store {
             alloc,
             shapes,
             words: Words::new(alloc, words),
+            noted: Words::new(alloc, noted),
         })
     }
 }

@@ -5,6 +5,7 @@ use Rattle.std.specs.Prelude.{codes, slice_index}
 use Rattle.std.proofs.lemmas.Int.{ints}
 use Rattle.un_isa.specs.declared.op.Op.TheVariants.{Imm, Mov, Add, Mpyi, Load, Store, Call, Jump, Jumpr, Reload, Enter, Leave, Nop}
 use Rattle.un_isa.specs.declared.instr.Instr.{Instr}
+use Rattle.un_isa.specs.declared.reg.TheConstants.{FRAME}
 use Rattle.un_packet.specs.declared.code.Packet.{Packet}
 use Rattle.un_packet.specs.declared.code.CodeBlock.{CodeBlock}
 use Rattle.un_packet.specs.CodeRules.{KeepsRules, IsGoodCodeBlock, IsGoodPacket, IsGoodInstr, leaves}
@@ -31,7 +32,7 @@ under label = block label (returning ∷ [])
 half_words : KeepsRules 4 (under (codes "e") ∷ []) → ⊥
 half_words h = let k = h.whole in omega (arith, k)
 
-large_frame : KeepsRules 264 (under (codes "e") ∷ []) → ⊥
+large_frame : KeepsRules (FRAME + 8) (under (codes "e") ∷ []) → ⊥
 large_frame h = let k = h.small in omega (arith, k)
 
 no_blocks : KeepsRules 0 [] → ⊥

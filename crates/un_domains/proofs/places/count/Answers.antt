@@ -1,4 +1,4 @@
-use Rattle.std.proofs.Common.{◌-◌, ◌+◌, arith, ap, length, sym, ◌∙◌}
+use Rattle.std.proofs.Common.{◌-◌, ◌+◌, arith, ap, length}
 use Rattle.std.proofs.lemmas.List.FromFn.{length-range_with_len}
 use Rattle.un_domains.specs.Domains.{values_of}
 use Rattle.un_domains.proofs.places.count.Goals as goal

@@ -1,6 +1,5 @@
-use Rattle.std.proofs.Common.{ℕ, List, ◌≡◌, ◌<◌, ◌+◌, ◌*◌, ◌/◌, ◌%◌, ◌^◌, arith, ap, sym, subst, ◌∙◌, length, get_or, set, bit_and, w64}
+use Rattle.std.proofs.Common.{ℕ, List, ◌≡◌, ◌<◌, ◌*◌, ◌/◌, ◌%◌, ◌^◌, arith, ap, sym, subst, ◌∙◌, length, get_or, set, bit_and, w64}
 use Rattle.std.specs.Int.{bit_not}
-use Rattle.un_domains.specs.Bits.{bit}
 use Rattle.un_domains.specs.BitLaws.{clear_same, clear_other}
 use Rattle.un_domains.specs.Shapes.{row_of, IsCleared}
 use Rattle.un_domains.specs.ShapeLaws.{row_set, get_row, length-row}

@@ -1,4 +1,4 @@
-use Rattle.std.proofs.Common.{nat_le, nat_lt, nat_eq}
+use Rattle.std.proofs.Common.{nat_le}
 use Rattle.un_domains.specs.ShapeLaws.{code_cut}
 use Rattle.un_domains.proofs.rows.keep_from.Goals as goal
 

@@ -1,4 +1,4 @@
-use Rattle.std.proofs.Common.{◌^◌, ◌<◌, ◌≡◌, ◌++◌, ◌-◌, ◌+◌, ◌/◌, ◌∷◌, [], ◌∙◌, ap, length, replicate, List, ℕ, arith, refl}
+use Rattle.std.proofs.Common.{◌^◌, ◌++◌, ◌-◌, ◌+◌, ◌/◌, ◌∷◌, [], ◌∙◌, ap, replicate, List, ℕ, arith, refl}
 use Rattle.un_domains.specs.ShapeLaws.{is_added}
 use Rattle.un_domains.proofs.store.add.Goals as goal
 

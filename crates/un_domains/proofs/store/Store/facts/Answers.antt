@@ -1,4 +1,4 @@
-use Rattle.std.proofs.Common.{ℕ, ◌≡◌, ◌<◌, ◌^◌, subst, All, length, map, ap, arith}
+use Rattle.std.proofs.Common.{ℕ, ◌≡◌, ◌<◌, subst, All, length, ap, arith}
 use Rattle.std.proofs.lemmas.List.{length-map}
 use Rattle.un_domains.specs.Sets.{Sets, NoneEmpty, set_at, least, greatest}
 use Rattle.un_domains.specs.Cuts.{Contents}
@@ -9,7 +9,7 @@ use Rattle.un_domains.proofs.store.Store.facts.Goals as goal
 pub returns-clause-full : goal.returns-clause-full
 returns-clause-full c =
     let a = c.self.inside in
-    subst (All NoneEmpty) (ap (λ (s : Contents). s.marked) c.self.view_is) (full_map a.shapes.items a.words.marked c.self.invariant.full)
+    subst (All NoneEmpty) (ap (λ (s : Contents). s.marked) c.self.view_is) (full_map a.shapes.items a.words.marked c.self.invariant.store.full)
 
 pub returns-clause-marks : goal.returns-clause-marks
 returns-clause-marks c =
@@ -18,7 +18,7 @@ returns-clause-marks c =
       arith,
       ap (λ (s : Contents). length s.marked) c.self.view_is,
       length-map a.words.marked (sets_of a.shapes.items),
-      c.self.invariant.deep,
+      c.self.invariant.store.deep,
     )
 
 pub returns-clause-long : goal.returns-clause-long
@@ -31,4 +31,4 @@ pub returns-clause-spread : goal.returns-clause-spread
 returns-clause-spread c =
     let a = c.self.inside in
     subst (λ (s : Contents). (v : ℕ) → 1 < length (set_at s.sets v) → least (set_at s.sets v) < greatest (set_at s.sets v)) c.self.view_is
-    (spread_all a.shapes.items a.words.words a.words.marked c.self.invariant)
+    (spread_all a.shapes.items a.words.words a.words.marked c.self.invariant.store)

@@ -1,19 +1,19 @@
-use Rattle.std.proofs.Common.{◌<◌, ◌-◌, arith, ap, subst, sym, length, map, nat_le, nat_lt, nat_eq, not, ◌∙◌}
-use Rattle.std.proofs.lemmas.List.{length-map}
-use Rattle.un_domains.specs.Cuts.{Contents, IsCut}
-use Rattle.un_domains.specs.Domains.{value_at}
-use Rattle.un_domains.specs.Shapes.{set_of, sets_of}
-use Rattle.un_domains.specs.ShapeLaws.{single_is}
+use Rattle.std.proofs.Common.{ℕ, ◌∙◌, nat_eq, ap}
+use Rattle.un_domains.specs.Cuts.{Contents}
+use Rattle.un_domains.specs.NotedLaws.{ends_there, single_by_ends}
 use Rattle.un_domains.proofs.store.Store.is_single.Goals as goal
+
+pub ends_at-least-requires : goal.ends_at-least-requires
+ends_at-least-requires c =
+    let a = c.self.inside in
+    let sets = ap (λ (s : Contents). s.sets) c.self.view_is in
+    ends_there a.shapes.items a.words a.noted c.self.invariant c.args.self.now.sets sets c.args.v.0 c.requires
 
 pub returns : goal.returns
 returns c =
     let a = c.self.inside in
-    let h = c.index-shape.result.now in
     let sets = ap (λ (s : Contents). s.sets) c.self.view_is in
-    let below : c.args.v.0 < length a.shapes.items =
-    omega (arith, c.requires, ap length sets, length-map a.shapes.items (set_of a.words.words)) in
-    single_is a.shapes.items a.words.words a.words.marked c.self.invariant c.args.v.0 h below c.index-shape.ensures c.args.self.now.sets
-    sets
-    c.as_slice.result.now c.as_slice.ensures c.bounds_at-bounds.result.lo c.bounds_at-bounds.result.end c.bounds_at-bounds.ensures.lo
-    c.bounds_at-bounds.ensures.end
+    let ends = c.ends_at-least.ensures in
+    ap (λ (n : ℕ). nat_eq n c.ends_at-least.result.1) ends.least
+    ∙ (ap (nat_eq _) ends.greatest
+    ∙ single_by_ends a.shapes.items a.words a.noted c.self.invariant c.args.self.now.sets sets c.args.v.0 c.requires)

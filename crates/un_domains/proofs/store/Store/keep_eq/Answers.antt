@@ -1,10 +1,34 @@
-use Rattle.std.proofs.Common.{◌<◌, arith, ap, subst, length, map, nat_le, nat_lt, nat_eq}
+use Rattle.std.proofs.Common.{◌<◌, arith, ap, subst, length, map, nat_eq}
 use Rattle.std.proofs.lemmas.List.{length-map}
 use Rattle.un_domains.specs.Cuts.{Contents, IsCut}
-use Rattle.un_domains.specs.Domains.{value_at}
 use Rattle.un_domains.specs.Shapes.{set_of, sets_of}
-use Rattle.un_domains.specs.ShapeLaws.{laid_at, domain_at, cut_store, cut_is, turned}
+use Rattle.un_domains.specs.NotedLaws.{ends_there, ends_are, same_eq, laid_after, whole_after}
+use Rattle.un_domains.specs.ShapeLaws.{laid_at, domain_at, cut_is}
 use Rattle.un_domains.proofs.store.Store.keep_eq.Goals as goal
+
+pub note-requires-clause-there : goal.note-requires-clause-there
+note-requires-clause-there c =
+    let a = c.self.inside in
+    let sets = ap (λ (s : Contents). s.sets) c.self.view_is in
+    ends_there a.shapes.items a.words a.noted c.self.invariant _ sets c.args.v.0 c.requires
+
+pub note-requires-clause-laid : goal.note-requires-clause-laid
+note-requires-clause-laid c =
+    let a = c.self.inside in
+    let h = c.index-shape.result.now in
+    let below : c.args.v.0 < length a.shapes.items =
+    omega (arith, c.requires, ap (λ (s : Contents). length s.sets) c.self.view_is, length-map a.shapes.items (set_of a.words.words)) in
+    laid_after a.shapes.items a.words c.keep_only-cut.new.words a.noted c.self.invariant c.args.v.0 h below c.index-shape.ensures
+    (λ i. nat_eq i c.place_of-k.result) (λ y. nat_eq y c.args.x) c.keep_only-cut.result c.place_of-k.ensures.agree c.keep_only-cut.ensures
+    c.as_slice.result.now c.as_slice.ensures
+
+pub note-requires-clause-domain : goal.note-requires-clause-domain
+note-requires-clause-domain c =
+    let a = c.self.inside in
+    let h = c.index-shape.result.now in
+    let below : c.args.v.0 < length a.shapes.items =
+    omega (arith, c.requires, ap (λ (s : Contents). length s.sets) c.self.view_is, length-map a.shapes.items (set_of a.words.words)) in
+    domain_at a.shapes.items a.words.words a.words.marked c.self.invariant.store c.args.v.0 h below c.index-shape.ensures
 
 pub invariant_of-self : goal.invariant_of-self
 invariant_of-self c =
@@ -12,9 +36,9 @@ invariant_of-self c =
     let h = c.index-shape.result.now in
     let below : c.args.v.0 < length a.shapes.items =
     omega (arith, c.requires, ap (λ (s : Contents). length s.sets) c.self.view_is, length-map a.shapes.items (set_of a.words.words)) in
-    cut_store a.shapes.items a.words.words c.keep_only.new.words.words a.words.marked c.keep_only.new.words.marked c.self.invariant
-    c.args.v.0 h below c.index-shape.ensures
-    (λ i. nat_eq i c.place_of-k.result) (λ y. nat_eq y c.args.x) c.keep_only.result c.place_of-k.ensures.agree c.keep_only.ensures
+    whole_after a.shapes.items a.words c.keep_only-cut.new.words a.noted c.self.invariant c.args.v.0 h below c.index-shape.ensures
+    (λ i. nat_eq i c.place_of-k.result) (λ y. nat_eq y c.args.x) c.keep_only-cut.result c.place_of-k.ensures.agree c.keep_only-cut.ensures
+    c.note.new.noted c.as_slice.result.now c.as_slice.ensures c.note.ensures
 
 pub returns : goal.returns
 returns c =
@@ -22,15 +46,15 @@ returns c =
     let h = c.index-shape.result.now in
     let below : c.args.v.0 < length a.shapes.items =
     omega (arith, c.requires, ap (λ (s : Contents). length s.sets) c.self.view_is, length-map a.shapes.items (set_of a.words.words)) in
-    let cut = cut_is a.shapes.items a.words.words c.keep_only.new.words.words a.words.marked c.keep_only.new.words.marked c.self.invariant
+    let cut = cut_is a.shapes.items a.words.words c.keep_only-cut.new.words.words a.words.marked c.keep_only-cut.new.words.marked c.self.invariant.store
     c.args.v.0 h below c.index-shape.ensures
-    (λ i. nat_eq i c.place_of-k.result) (λ y. nat_eq y c.args.x) c.keep_only.result c.place_of-k.ensures.agree c.keep_only.ensures in
+    (λ i. nat_eq i c.place_of-k.result) (λ y. nat_eq y c.args.x) c.keep_only-cut.result c.place_of-k.ensures.agree c.keep_only-cut.ensures in
     subst (λ (s : Contents). IsCut (λ y. nat_eq y c.args.x) c.args.v.0 s
     (record {
-      sets = sets_of a.shapes.items c.keep_only.new.words.words;
+      sets = sets_of a.shapes.items c.keep_only-cut.new.words.words;
       marked =
-          map (sets_of a.shapes.items) c.keep_only.new.words.marked;
-    }) c.keep_only.result) c.self.view_is cut
+          map (sets_of a.shapes.items) c.keep_only-cut.new.words.marked;
+    }) c.keep_only-cut.result) c.self.view_is cut
 
 pub index-shape-requires : goal.index-shape-requires
 index-shape-requires c =
@@ -49,29 +73,43 @@ place_of-k-requires c =
     let h = c.index-shape.result.now in
     let below : c.args.v.0 < length a.shapes.items =
     omega (arith, c.requires, ap (λ (s : Contents). length s.sets) c.self.view_is, length-map a.shapes.items (set_of a.words.words)) in
-    (domain_at a.shapes.items a.words.words a.words.marked c.self.invariant c.args.v.0 h below c.index-shape.ensures).rises
+    (domain_at a.shapes.items a.words.words a.words.marked c.self.invariant.store c.args.v.0 h below c.index-shape.ensures).rises
 
-pub keep_only-requires-clause-small : goal.keep_only-requires-clause-small
-keep_only-requires-clause-small c =
+pub keep_only-cut-requires-clause-small : goal.keep_only-cut-requires-clause-small
+keep_only-cut-requires-clause-small c =
     let a = c.self.inside in
     let h = c.index-shape.result.now in
     let below : c.args.v.0 < length a.shapes.items =
     omega (arith, c.requires, ap (λ (s : Contents). length s.sets) c.self.view_is, length-map a.shapes.items (set_of a.words.words)) in
-    let laid = laid_at a.shapes.items a.words.words a.words.marked c.self.invariant c.args.v.0 h below c.index-shape.ensures in
+    let laid = laid_at a.shapes.items a.words.words a.words.marked c.self.invariant.store c.args.v.0 h below c.index-shape.ensures in
     omega (arith, laid.small)
 
-pub keep_only-requires-clause-tight : goal.keep_only-requires-clause-tight
-keep_only-requires-clause-tight c =
+pub keep_only-cut-requires-clause-tight : goal.keep_only-cut-requires-clause-tight
+keep_only-cut-requires-clause-tight c =
     let a = c.self.inside in
     let h = c.index-shape.result.now in
     let below : c.args.v.0 < length a.shapes.items =
     omega (arith, c.requires, ap (λ (s : Contents). length s.sets) c.self.view_is, length-map a.shapes.items (set_of a.words.words)) in
-    (laid_at a.shapes.items a.words.words a.words.marked c.self.invariant c.args.v.0 h below c.index-shape.ensures).tight
+    (laid_at a.shapes.items a.words.words a.words.marked c.self.invariant.store c.args.v.0 h below c.index-shape.ensures).tight
 
-pub keep_only-requires-clause-within : goal.keep_only-requires-clause-within
-keep_only-requires-clause-within c =
+pub keep_only-cut-requires-clause-within : goal.keep_only-cut-requires-clause-within
+keep_only-cut-requires-clause-within c =
     let a = c.self.inside in
     let h = c.index-shape.result.now in
     let below : c.args.v.0 < length a.shapes.items =
     omega (arith, c.requires, ap (λ (s : Contents). length s.sets) c.self.view_is, length-map a.shapes.items (set_of a.words.words)) in
-    (laid_at a.shapes.items a.words.words a.words.marked c.self.invariant c.args.v.0 h below c.index-shape.ensures).within
+    (laid_at a.shapes.items a.words.words a.words.marked c.self.invariant.store c.args.v.0 h below c.index-shape.ensures).within
+
+pub ends_at-least-requires : goal.ends_at-least-requires
+ends_at-least-requires c =
+    let a = c.self.inside in
+    let sets = ap (λ (s : Contents). s.sets) c.self.view_is in
+    ends_there a.shapes.items a.words a.noted c.self.invariant c.args.self.now.sets sets c.args.v.0 c.requires
+
+pub returns-then-least-x : goal.returns-then-least-x
+returns-then-least-x c =
+    let a = c.self.inside in
+    let sets = ap (λ (s : Contents). s.sets) c.self.view_is in
+    let ends = ends_are a.shapes.items a.words a.noted c.self.invariant c.args.self.now.sets sets c.args.v.0 c.requires in
+    let e = c.ends_at-least.ensures in
+    same_eq c.args.v.0 c.args.self.now c.requires _ _ c.args.x ends (omega (arith, c.if-least-greatest.true, e.least, e.greatest)) (omega (arith, c.if-least-x.true, e.least))

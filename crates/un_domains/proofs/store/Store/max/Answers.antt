@@ -1,45 +1,24 @@
-use Rattle.std.proofs.Common.{◌<◌, ◌-◌, arith, ap, subst, sym, length, map, nat_le, nat_lt, nat_eq, not, ◌∙◌}
-use Rattle.std.proofs.lemmas.List.{length-map}
-use Rattle.un_domains.specs.Cuts.{Contents, IsCut}
-use Rattle.un_domains.specs.Domains.{value_at}
-use Rattle.un_domains.specs.Shapes.{set_of, sets_of}
-use Rattle.un_domains.specs.ShapeLaws.{bounds_in, max_is}
+use Rattle.std.proofs.Common.{◌∙◌, arith, ap}
+use Rattle.un_domains.specs.Cuts.{Contents}
+use Rattle.un_domains.specs.NotedLaws.{ends_there, ends_are}
 use Rattle.un_domains.proofs.store.Store.max.Goals as goal
 
-pub overflow_sub-bounds : goal.overflow_sub-bounds
-overflow_sub-bounds c =
+pub ends_at-greatest-requires : goal.ends_at-greatest-requires
+ends_at-greatest-requires c =
     let a = c.self.inside in
-    let h = c.index-shape.result.now in
     let sets = ap (λ (s : Contents). s.sets) c.self.view_is in
-    let below : c.args.v.0 < length a.shapes.items =
-    omega (arith, c.requires.there, ap length sets, length-map a.shapes.items (set_of a.words.words)) in
-    let lt = bounds_in a.shapes.items a.words.words a.words.marked c.self.invariant c.args.v.0 h below c.index-shape.ensures
-    c.args.self.now.sets sets
-    c.as_slice.result.now c.as_slice.ensures c.bounds_at-bounds.result.lo c.bounds_at-bounds.result.end c.bounds_at-bounds.ensures.lo
-    c.bounds_at-bounds.ensures.end c.requires.some in
-    omega (arith, lt.0)
+    ends_there a.shapes.items a.words a.noted c.self.invariant c.args.self.now.sets sets c.args.v.0 c.requires.there
 
-pub value_at-requires : goal.value_at-requires
-value_at-requires c =
+pub overflow_cast-result : goal.overflow_cast-result
+overflow_cast-result c =
     let a = c.self.inside in
-    let h = c.index-shape.result.now in
     let sets = ap (λ (s : Contents). s.sets) c.self.view_is in
-    let below : c.args.v.0 < length a.shapes.items =
-    omega (arith, c.requires.there, ap length sets, length-map a.shapes.items (set_of a.words.words)) in
-    let lt = bounds_in a.shapes.items a.words.words a.words.marked c.self.invariant c.args.v.0 h below c.index-shape.ensures
-    c.args.self.now.sets sets
-    c.as_slice.result.now c.as_slice.ensures c.bounds_at-bounds.result.lo c.bounds_at-bounds.result.end c.bounds_at-bounds.ensures.lo
-    c.bounds_at-bounds.ensures.end c.requires.some in
-    omega (arith, lt.0, lt.1)
+    let ends = ends_are a.shapes.items a.words a.noted c.self.invariant c.args.self.now.sets sets c.args.v.0 c.requires.there in
+    omega (arith, ends.small.1, c.ends_at-greatest.ensures.greatest)
 
 pub returns : goal.returns
 returns c =
     let a = c.self.inside in
-    let h = c.index-shape.result.now in
     let sets = ap (λ (s : Contents). s.sets) c.self.view_is in
-    let below : c.args.v.0 < length a.shapes.items =
-    omega (arith, c.requires.there, ap length sets, length-map a.shapes.items (set_of a.words.words)) in
-    c.value_at.ensures ∙ max_is a.shapes.items a.words.words a.words.marked c.self.invariant c.args.v.0 h below c.index-shape.ensures
-    c.args.self.now.sets sets
-    c.as_slice.result.now c.as_slice.ensures c.bounds_at-bounds.result.lo c.bounds_at-bounds.result.end c.bounds_at-bounds.ensures.lo
-    c.bounds_at-bounds.ensures.end c.requires.some
+    let ends = ends_are a.shapes.items a.words a.noted c.self.invariant c.args.self.now.sets sets c.args.v.0 c.requires.there in
+    c.ends_at-greatest.ensures.greatest ∙ (ends.some c.requires.some).1
