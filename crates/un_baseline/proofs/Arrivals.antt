@@ -7,6 +7,7 @@ use Rattle.std.proofs.lemmas.List.Elements.{All-nil, All-cons}
 use Rattle.un_base.specs.declared.ids.TempId.{TempId}
 use Rattle.un_isa.specs.declared.op.Op.{Op}
 use Rattle.un_isa.specs.declared.op.Op.TheVariants.{Reload, R2P}
+use Rattle.un_isa.specs.declared.reg.TheConstants.{GENERALS, FIRST_SLOT}
 use Rattle.un_isa.specs.declared.reg.Reg.{Reg}
 use Rattle.un_isa.specs.declared.reg.Space.TheVariants.{R, P, M}
 use Rattle.un_isa.specs.Fit.{IsFit}
@@ -23,6 +24,7 @@ use Rattle.un_ir.specs.declared.extended.Ext.{Ext}
 use Rattle.un_ir.specs.declared.extended.Growth.{Growth}
 use Rattle.un_ir.specs.declared.extended.Value.{Value}
 use Rattle.un_ir.specs.declared.extended.Sort.{Sort}
+use Rattle.un_ir.specs.declared.extended.TheConstants.{RELOAD, TO_PREDICATE}
 use Rattle.un_ir.specs.Extended.{temp}
 use Rattle.un_ir.specs.Linear.{first_of}
 use Rattle.un_ir.specs.ExtendOf.{copy_op, copy_count, with_operand_by, with_operand, with_operands, new_operands, chosen_from}
@@ -35,7 +37,7 @@ use Rattle.un_model.specs.Solutions.{InSpace}
 use Rattle.un_baseline.specs.declared.plan.Purpose.TheVariants.{Operands}
 use Rattle.un_baseline.specs.declared.plan.Setting.{Setting}
 use Rattle.un_baseline.specs.declared.plan.Progress.{Progress}
-use Rattle.un_baseline.specs.declared.plan.TheConstants.{RELOAD, TO_PREDICATE, PREDICATE}
+use Rattle.un_baseline.specs.declared.plan.TheConstants.{PREDICATE}
 use Rattle.un_baseline.specs.Plans.{Step, planned_read}
 use Rattle.un_baseline.specs.SpillEverywhere.{purpose_at, last_place, kept_place, operand_place, copies_of}
 use Rattle.un_baseline.proofs.Carried.{Carries, carries_operand, chosen_last, arrived_general, arrived_pred}
@@ -46,19 +48,19 @@ use Rattle.un_baseline.proofs.Walk.{Good, Moved, moving_copy}
 
 -- ---- spaces
 
-pub general_space : (r : ℕ) → r < 32 → space_of r ≡ R
-general_space r lt = by (nat_lt r 32) refl
+pub general_space : (r : ℕ) → r < GENERALS → space_of r ≡ R
+general_space r lt = by (nat_lt r GENERALS) refl
   where
-    by : (t : Bool) → nat_lt r 32 ≡ t → (if t then R else if nat_lt r 36 then P else M) ≡ R
+    by : (t : Bool) → nat_lt r GENERALS ≡ t → (if t then R else if nat_lt r FIRST_SLOT then P else M) ≡ R
     by true e = refl
-    by false e = absurd (let ge : 32 ≤ r = grind (arith, nat_tests) in omega arith)
+    by false e = absurd (let ge : GENERALS ≤ r = grind (arith, nat_tests) in omega arith)
 
-pub slot_space : (r : ℕ) → 36 ≤ r → space_of r ≡ M
-slot_space r le = by (nat_lt r 32) (nat_lt r 36) refl refl
+pub slot_space : (r : ℕ) → FIRST_SLOT ≤ r → space_of r ≡ M
+slot_space r le = by (nat_lt r GENERALS) (nat_lt r FIRST_SLOT) refl refl
   where
-    by : (t u : Bool) → nat_lt r 32 ≡ t → nat_lt r 36 ≡ u → (if t then R else if u then P else M) ≡ M
-    by true u e f = absurd (let lt : r < 32 = grind (arith, nat_tests) in omega arith)
-    by false true e f = absurd (let lt : r < 36 = grind (arith, nat_tests) in omega arith)
+    by : (t u : Bool) → nat_lt r GENERALS ≡ t → nat_lt r FIRST_SLOT ≡ u → (if t then R else if u then P else M) ≡ M
+    by true u e f = absurd (let lt : r < GENERALS = grind (arith, nat_tests) in omega arith)
+    by false true e f = absurd (let lt : r < FIRST_SLOT = grind (arith, nat_tests) in omega arith)
     by false false e f = refl
 
 abbrev pub sort_by : Kind → Sort
@@ -74,12 +76,12 @@ module _ (c : ℕ) (H : Seen → List Read → Type 0) (b end : ℕ) (e : Ext) (
     pub carries : Carries g x own (sort_by kind)
     pub size : length own ≡ 1 + copies_of kind
     pub room : ℕ
-    pub slot : 36 ≤ room
+    pub slot : FIRST_SLOT ≤ room
     pub stands : Stands c b (chosen own (kept_place s own)).0 room seen
 
   pub kept_later : (g g' : Growth) (seen seen' : Seen) (x : ℕ) (kind : Kind) → ((own : List TempId) (sort : Sort) → Carries g x own sort
       → Carries g' x own sort)
-      → ((k r : ℕ) → 36 ≤ r → Stands c b k r seen → Stands c b k r seen') → Kept g seen x kind → Kept g' seen' x kind
+      → ((k r : ℕ) → FIRST_SLOT ≤ r → Stands c b k r seen → Stands c b k r seen') → Kept g seen x kind → Kept g' seen' x kind
   kept_later g g' seen seen' x kind f stands h = record {
     own = h.own;
     carries = f h.own (sort_by kind) h.carries;
@@ -180,7 +182,7 @@ module _ (c : ℕ) (H : Seen → List Read → Type 0) (b end : ℕ) (e : Ext) (
 
   kept_all_later : (g g' : Growth) (seen seen' : Seen) (xs : List Operand) → ((x : ℕ) (own : List TempId) (sort : Sort)
       → Carries g x own sort → Carries g' x own sort)
-      → ((k r : ℕ) → 36 ≤ r → Stands c b k r seen → Stands c b k r seen') → AreKept g seen xs → AreKept g' seen' xs
+      → ((k r : ℕ) → FIRST_SLOT ≤ r → Stands c b k r seen → Stands c b k r seen') → AreKept g seen xs → AreKept g' seen' xs
   kept_all_later g g' seen seen' [] f stands h = tt
   kept_all_later g g' seen seen' (x ∷ xs) f stands h = (
     kept_later g g' seen seen' (first_of x.alts) General (f (first_of x.alts)) stands h.0,

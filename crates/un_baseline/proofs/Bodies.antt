@@ -26,6 +26,7 @@ use Rattle.un_ir.specs.declared.extended.ExtBlock.{ExtBlock}
 use Rattle.un_ir.specs.declared.extended.Ext.{Ext}
 use Rattle.un_ir.specs.declared.extended.Growth.{Growth}
 use Rattle.un_ir.specs.declared.extended.Sort.{Sort}
+use Rattle.un_ir.specs.declared.extended.TheConstants.{SPILL, FROM_PREDICATE}
 use Rattle.un_ir.specs.Extended.{temp, name_kind}
 use Rattle.un_ir.specs.ExtendOf.{copy_op, copy_count_by, own_temps, with_value, with_operands, new_operands, with_results, with_extended}
 use Rattle.un_ir.specs.WellFormed.{kind_given, result_kind}
@@ -37,7 +38,7 @@ use Rattle.un_model.specs.Solutions.{InSpace}
 use Rattle.un_baseline.specs.declared.plan.Definer.TheVariants.{Assigns}
 use Rattle.un_baseline.specs.declared.plan.Setting.{Setting}
 use Rattle.un_baseline.specs.declared.plan.Progress.{Progress}
-use Rattle.un_baseline.specs.declared.plan.TheConstants.{SPILL, FROM_PREDICATE, PREDICATE}
+use Rattle.un_baseline.specs.declared.plan.TheConstants.{PREDICATE}
 use Rattle.un_baseline.specs.Plans.{Step, planned_issue, planned_read}
 use Rattle.un_baseline.specs.SpillEverywhere.{purpose_at, slot_of, last_place, kept_place, kept_by_kind, first_copy, second_copy}
 use Rattle.un_baseline.specs.SpillEverywhere.{operand_place, copies_of, other_progress, assigning}

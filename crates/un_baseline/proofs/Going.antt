@@ -10,6 +10,7 @@ use Rattle.un_base.specs.declared.ids.TempId.{TempId}
 use Rattle.un_isa.specs.Fit.{IsFit}
 use Rattle.un_isa.specs.Registers.{callee_saved}
 use Rattle.un_isa.specs.Tables.{in_mask}
+use Rattle.un_isa.specs.declared.reg.TheConstants.{FIRST_SLOT}
 use Rattle.un_ir.specs.declared.function.Kind.{Kind}
 use Rattle.un_ir.specs.declared.function.Kind.TheVariants.{General}
 use Rattle.un_ir.specs.declared.function.SrcOp.{SrcOp}
@@ -43,8 +44,8 @@ use Rattle.un_baseline.proofs.Bodies.{Safe, Named, Grew, body_good}
 use Rattle.un_baseline.proofs.Sources.{kind_named, ready_op}
 
 module _ (c : ℕ) (H : Seen → List Read → Type 0) (b end : ℕ) (e : Ext) (block : ExtBlock) (s : Setting) (fit : IsFit e.table)
-    (free : (r : ℕ) → 36 ≤ r → in_mask c r ≡ false) (f : Function) (source : Block) (at : slice_get f.blocks b ≡ Some source)
-    (same_names : e.names ≡ map kind_of_pair f.names) (link_is : s.link ≡ 36 + length e.names) (live_in : List NameId)
+    (free : (r : ℕ) → FIRST_SLOT ≤ r → in_mask c r ≡ false) (f : Function) (source : Block) (at : slice_get f.blocks b ≡ Some source)
+    (same_names : e.names ≡ map kind_of_pair f.names) (link_is : s.link ≡ FIRST_SLOT + length e.names) (live_in : List NameId)
     (entry saved : Bool) where
   abbrev G : ℕ → Progress → Seen → List ExtOp → Type 0
   G = Good c H b end e block s fit
@@ -82,7 +83,7 @@ module _ (c : ℕ) (H : Seen → List Read → Type 0) (b end : ℕ) (e : Ext) (
     pub saved_at : (j r : ℕ) → slice_get (callee_saved e.table) j ≡ Some r → SavedAt g seen (kept0 + j) r
     pub link : LinkAt g seen link0
 
-  safe_slot : (r : ℕ) → 36 ≤ r → Safe c H b end e block s fit r
+  safe_slot : (r : ℕ) → FIRST_SLOT ≤ r → Safe c H b end e block s fit r
   safe_slot r le = record { high = omega arith; other = λ z. omega arith; spared = free r le }
 
   -- ---- what one operation leaves

@@ -11,7 +11,7 @@ use Rattle.std.proofs.lemmas.List.Elements.{All-append, All-nil, All-cons, All-w
 use Rattle.std.proofs.lemmas.List.Kept.{AllPairs-cons}
 use Rattle.un_base.specs.declared.ids.NameId.{NameId}
 use Rattle.un_base.specs.declared.ids.TempId.{TempId}
-use Rattle.un_isa.specs.declared.reg.TheConstants.{LINK}
+use Rattle.un_isa.specs.declared.reg.TheConstants.{LINK, FIRST_SLOT}
 use Rattle.un_isa.specs.Fit.{IsFit}
 use Rattle.un_isa.specs.Registers.{callee_saved, saved_registers}
 use Rattle.un_isa.specs.Tables.{in_mask}
@@ -93,8 +93,8 @@ pub record IsKept (c r : ℕ) : Type 0 where
   pub spared : in_mask c r ≡ false
 
 module _ (c : ℕ) (H : Seen → List Read → Type 0) (b end : ℕ) (e : Ext) (block : ExtBlock) (s : Setting) (fit : IsFit e.table)
-    (free : (r : ℕ) → 36 ≤ r → in_mask c r ≡ false) (f : Function) (source : Block) (at : slice_get f.blocks b ≡ Some source)
-    (same_names : e.names ≡ map kind_of_pair f.names) (link_is : s.link ≡ 36 + length e.names) (entry saved : Bool)
+    (free : (r : ℕ) → FIRST_SLOT ≤ r → in_mask c r ≡ false) (f : Function) (source : Block) (at : slice_get f.blocks b ≡ Some source)
+    (same_names : e.names ≡ map kind_of_pair f.names) (link_is : s.link ≡ FIRST_SLOT + length e.names) (entry saved : Bool)
     (regs_kept : All (IsKept c) (callee_saved e.table)) (regs_apart : AreApart (callee_saved e.table))
     (is_entry : s.is_entry ≡ entry) (values_is : s.values ≡ length block.live_in + suc (length (callee_saved e.table)))
     (live : (name : NameId) → IsLive f.blocks name b 0 → Contains block.live_in name)

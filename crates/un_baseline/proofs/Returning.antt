@@ -7,7 +7,7 @@ use Rattle.std.proofs.lemmas.List.Elements.{All-nil, All-cons}
 use Rattle.un_base.specs.declared.ids.NameId.{NameId}
 use Rattle.un_base.specs.declared.ids.TempId.{TempId}
 use Rattle.un_isa.specs.declared.op.Op.TheVariants.{Jumpr}
-use Rattle.un_isa.specs.declared.reg.TheConstants.{LINK}
+use Rattle.un_isa.specs.declared.reg.TheConstants.{LINK, FIRST_SLOT}
 use Rattle.un_isa.specs.Fit.{IsFit}
 use Rattle.un_isa.specs.Registers.{callee_saved}
 use Rattle.un_isa.specs.Tables.{in_mask}
@@ -49,8 +49,8 @@ use Rattle.un_baseline.proofs.Tailing.{leave_good, transfer_good, late_copy, tim
 use Rattle.un_baseline.proofs.Items.{all_at}
 
 module _ (c : ℕ) (H : Seen → List Read → Type 0) (b end : ℕ) (e : Ext) (block : ExtBlock) (s : Setting) (fit : IsFit e.table)
-    (free : (r : ℕ) → 36 ≤ r → in_mask c r ≡ false) (f : Function) (source : Block) (at : slice_get f.blocks b ≡ Some source)
-    (same_names : e.names ≡ map kind_of_pair f.names) (link_is : s.link ≡ 36 + length e.names) (live_in : List NameId)
+    (free : (r : ℕ) → FIRST_SLOT ≤ r → in_mask c r ≡ false) (f : Function) (source : Block) (at : slice_get f.blocks b ≡ Some source)
+    (same_names : e.names ≡ map kind_of_pair f.names) (link_is : s.link ≡ FIRST_SLOT + length e.names) (live_in : List NameId)
     (entry saved : Bool) where
   abbrev G : ℕ → Progress → Seen → List ExtOp → Type 0
   G = Good c H b end e block s fit

@@ -4,7 +4,7 @@ use Rattle.un_base.specs.declared.ids.NameId.{NameId}
 use Rattle.un_isa.specs.Hexagon.{HEXAGON}
 use Rattle.un_isa.specs.Registers.{callee_saved}
 use Rattle.un_isa.specs.declared.op.Op.{Op}
-use Rattle.un_isa.specs.declared.reg.TheConstants.{SLOTS}
+use Rattle.un_isa.specs.declared.reg.TheConstants.{FIRST_SLOT, SLOTS}
 use Rattle.un_isa.specs.declared.op.Op.TheVariants.{Add, CmpEq, Call, Mux}
 use Rattle.un_ir.specs.LinearOf.{linear_blocks}
 use Rattle.un_ir.specs.ExtendOf.{extend_of}
@@ -52,7 +52,7 @@ thirty_six n = six n ++ six n ++ six n ++ six n ++ six n ++ six n
 smallest : spilled_values returns_alone
     ≡ (16 ∷ 17 ∷ 18 ∷ 19 ∷ 20 ∷ 21 ∷ 22 ∷ 23 ∷ 24 ∷ 25 ∷ 26 ∷ 27 ∷ 31 ∷ [])
     ++ thirty_six 0
-    ++ (2 ∷ 2 ∷ 36 ∷ 1 ∷ 1 ∷ 1 ∷ 5 ∷ 3 ∷ 3 ∷ 1 ∷ 31 ∷ 6 ∷ 2 ∷ [])
+    ++ (2 ∷ 2 ∷ FIRST_SLOT ∷ 1 ∷ 1 ∷ 1 ∷ 5 ∷ 3 ∷ 3 ∷ 1 ∷ 31 ∷ 6 ∷ 2 ∷ [])
     ++ thirty_six 0
     ++ six 0
     ++ six 0

@@ -10,6 +10,7 @@ use Rattle.un_base.specs.declared.ids.NameId.{NameId}
 use Rattle.un_base.specs.declared.ids.TempId.{TempId}
 use Rattle.un_isa.specs.declared.op.Op.{Op}
 use Rattle.un_isa.specs.declared.op.Op.TheVariants.{Call, Spill}
+use Rattle.un_isa.specs.declared.reg.TheConstants.{FIRST_SLOT}
 use Rattle.un_isa.specs.Fit.{IsFit}
 use Rattle.un_isa.specs.Tables.{latency_of}
 use Rattle.un_ir.specs.declared.function.Kind.{Kind}
@@ -21,6 +22,7 @@ use Rattle.un_ir.specs.declared.extended.ExtBlock.{ExtBlock}
 use Rattle.un_ir.specs.declared.extended.Ext.{Ext}
 use Rattle.un_ir.specs.declared.extended.Growth.{Growth}
 use Rattle.un_ir.specs.declared.extended.Sort.{Sort}
+use Rattle.un_ir.specs.declared.extended.TheConstants.{SPILL}
 use Rattle.un_ir.specs.Extended.{temp, name_kind}
 use Rattle.un_ir.specs.ExtendOf.{copy_op, copy_count, own_temps, value_of, with_value, with_values, sort_of_name}
 use Rattle.un_model.specs.declared.schedule.Issue.{Issue}
@@ -33,7 +35,6 @@ use Rattle.un_model.specs.Solutions.{InSpace}
 use Rattle.un_baseline.specs.declared.plan.Definer.TheVariants.{Start, Other}
 use Rattle.un_baseline.specs.declared.plan.Setting.{Setting}
 use Rattle.un_baseline.specs.declared.plan.Progress.{Progress}
-use Rattle.un_baseline.specs.declared.plan.TheConstants.{SPILL}
 use Rattle.un_baseline.specs.Plans.{Step, planned_issue}
 use Rattle.un_baseline.specs.SpillEverywhere.{purpose_at, slot_of, slot_at_start, start_register, spilled_to, first_copy, second_copy}
 use Rattle.un_baseline.specs.SpillEverywhere.{no_move, other_progress, steps_of}
@@ -375,7 +376,7 @@ module _ (c : ℕ) (H : Seen → List Read → Type 0) (b end : ℕ) (e : Ext) (
   saved_link v is = let z : (v + 1 == s.values) ≡ true = grind (arith, nat_tests) in rw z refl
 
   pub link_spills : (cnt j m n : ℕ) (p : Progress) (seen : Seen) (g : Growth) (rest : List ExtOp) → p.definer ≡ Start → p.values ≡ j
-      → ((i : ℕ) → slice_get block.live_in (j + i) ≡ None) → j + cnt + 1 ≡ s.values → 36 ≤ s.link → InLow (m + cnt) seen
+      → ((i : ℕ) → slice_get block.live_in (j + i) ≡ None) → j + cnt + 1 ≡ s.values → FIRST_SLOT ≤ s.link → InLow (m + cnt) seen
       → Front c b p.cycle seen → length seen.made ≡ g.next
       → ((n' : ℕ) (p' : Progress) (seen' : Seen) → p.cycle ≤ p'.cycle → p'.operands ≡ p.operands → LinkSpilled cnt g p'.cycle seen seen'
       → G n' p' seen' rest)

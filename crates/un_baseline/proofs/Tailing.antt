@@ -8,6 +8,7 @@ use Rattle.std.proofs.lemmas.List.Elements.{All-append, All-nil, All-cons}
 use Rattle.un_base.specs.declared.ids.TempId.{TempId}
 use Rattle.un_isa.specs.declared.op.Op.{Op}
 use Rattle.un_isa.specs.declared.op.Op.TheVariants.{Call}
+use Rattle.un_isa.specs.declared.reg.TheConstants.{GENERALS, FIRST_SLOT}
 use Rattle.un_isa.specs.Fit.{IsFit}
 use Rattle.un_ir.specs.declared.function.Term.{Term}
 use Rattle.un_ir.specs.declared.extended.NodeCopy.TheVariants.{U}
@@ -16,6 +17,7 @@ use Rattle.un_ir.specs.declared.extended.Operand.{Operand}
 use Rattle.un_ir.specs.declared.extended.ExtOp.{ExtOp}
 use Rattle.un_ir.specs.declared.extended.ExtBlock.{ExtBlock}
 use Rattle.un_ir.specs.declared.extended.Ext.{Ext}
+use Rattle.un_ir.specs.declared.extended.TheConstants.{RELOAD}
 use Rattle.un_ir.specs.ExtendOf.{copy_op, frame_op}
 use Rattle.un_model.specs.declared.schedule.Issue.{Issue}
 use Rattle.un_model.specs.declared.schedule.Read.{Read}
@@ -27,7 +29,6 @@ use Rattle.un_baseline.specs.declared.plan.Purpose.{Purpose}
 use Rattle.un_baseline.specs.declared.plan.Definer.TheVariants.{Other}
 use Rattle.un_baseline.specs.declared.plan.Setting.{Setting}
 use Rattle.un_baseline.specs.declared.plan.Progress.{Progress}
-use Rattle.un_baseline.specs.declared.plan.TheConstants.{RELOAD}
 use Rattle.un_baseline.specs.Plans.{Step, planned_issue, planned_read, planned_reads_by}
 use Rattle.un_baseline.specs.SpillEverywhere.{purpose_at, move, copy_move, next_cycle, leave_cycle, end_cycle, after_end, operand_place}
 use Rattle.un_baseline.specs.SpillEverywhere.{other_progress, steps_of}
@@ -204,7 +205,7 @@ module _ (c : ℕ) (H : Seen → List Read → Type 0) (b end : ℕ) (e : Ext) (
       (at place register from room : ℕ)
       → purpose_at s.term rest ≡ purpose → copy_move e block.live_in s p purpose alts U ≡ move RELOAD at place register
       → next_cycle e.table p.cycle (move RELOAD at place register) purpose U ≡ p.cycle
-      → (chosen alts place).0 ≡ from → Stands c b from room seen → 36 ≤ room → register < 32
+      → (chosen alts place).0 ≡ from → Stands c b from room seen → FIRST_SLOT ≤ room → register < GENERALS
       → Timely c b at register seen → All (IsCalled c b at) seen.issues → Known c b seen
       → ((seen' : Seen) → Reloaded register room seen seen'
       → G (n + 1) (record { cycle = p.cycle; values = p.values; operands = p.operands + 1; definer = p.definer }) seen' rest)

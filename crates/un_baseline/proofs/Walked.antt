@@ -10,6 +10,7 @@ use Rattle.std.proofs.lemmas.List.Kept.{AllPairs-cons, AllPairs-filter}
 use Rattle.std.proofs.lemmas.Nat.Bits.{bit_at_above}
 use Rattle.std.proofs.lemmas.Option.{slice_get_within}
 use Rattle.un_base.specs.declared.ids.NameId.{NameId}
+use Rattle.un_isa.specs.declared.reg.TheConstants.{FIRST_SLOT}
 use Rattle.un_isa.specs.declared.table.Table.{Table}
 use Rattle.un_isa.specs.Fit.{IsFit}
 use Rattle.un_isa.specs.Starts.{is_clobbered}
@@ -52,8 +53,8 @@ use Rattle.un_baseline.proofs.Items.{all_one, append_nil}
 
 -- ---- masks
 
-pub no_slot_clobbered : (t : Table) → IsFit t → (r : ℕ) → 36 ≤ r → in_mask t.clobbered r ≡ false
-no_slot_clobbered t fit r le = let z = bit_at_above t.clobbered 36 r fit.no_others.0 le in ap (λ (n : ℕ). nat_eq n 1) z
+pub no_slot_clobbered : (t : Table) → IsFit t → (r : ℕ) → FIRST_SLOT ≤ r → in_mask t.clobbered r ≡ false
+no_slot_clobbered t fit r le = let z = bit_at_above t.clobbered FIRST_SLOT r fit.no_others.0 le in ap (λ (n : ℕ). nat_eq n 1) z
 
 range_below : (a n : ℕ) → All (λ (r : ℕ). r < a + n) (range_with_len a n)
 range_below a zero = All-nil (λ (r : ℕ). r < a + zero)

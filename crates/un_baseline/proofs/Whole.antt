@@ -69,7 +69,7 @@ Handed e block (Ret value) seen qs = Unit {0}
 Handed e block _ seen qs = AllZip (ReadsFrom seen) qs (bound_rooms e block.live_out)
 
 module _ (f : Function) (lists : List (List NameId)) (t : Table) (fit : IsFit t) (live : AreLive f.blocks lists)
-    (free : (r : ℕ) → 36 ≤ r → in_mask t.clobbered r ≡ false)
+    (free : (r : ℕ) → FIRST_SLOT ≤ r → in_mask t.clobbered r ≡ false)
     (regs_kept : All (IsKept t.clobbered) (callee_saved t)) (regs_apart : AreApart (callee_saved t)) where
   abbrev e : Ext
   e = extend_of (lin_of f lists t)
@@ -207,7 +207,7 @@ module _ (f : Function) (lists : List (List NameId)) (t : Table) (fit : IsFit t)
         ends_back : List ExtOp → Bool
         ends_back ops = let x = ending_of ops in is_return x.term
 
-    link_is : s.link ≡ 36 + length e.names
+    link_is : s.link ≡ FIRST_SLOT + length e.names
     link_is = refl
 
     -- ---- the end

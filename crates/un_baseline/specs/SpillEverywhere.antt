@@ -24,6 +24,7 @@ use Rattle.un_ir.specs.declared.extended.Operand.{Operand}
 use Rattle.un_ir.specs.declared.extended.ExtOp.{ExtOp}
 use Rattle.un_ir.specs.declared.extended.ExtBlock.{ExtBlock}
 use Rattle.un_ir.specs.declared.extended.Ext.{Ext}
+use Rattle.un_ir.specs.declared.extended.TheConstants.{SPILL, RELOAD, FROM_PREDICATE, TO_PREDICATE}
 use Rattle.un_ir.specs.Extended.{name_kind}
 use Rattle.un_ir.specs.Linear.{first_of}
 use Rattle.un_model.specs.Congruences.{term_of, live_in_temps}
@@ -37,7 +38,7 @@ use Rattle.un_baseline.specs.declared.plan.Definer.TheVariants.{Start, Assigns, 
 use Rattle.un_baseline.specs.declared.plan.Setting.{Setting}
 use Rattle.un_baseline.specs.declared.plan.Progress.{Progress}
 use Rattle.un_baseline.specs.declared.plan.Move.{Move}
-use Rattle.un_baseline.specs.declared.plan.TheConstants.{SPILL, RELOAD, FROM_PREDICATE, TO_PREDICATE, PREDICATE}
+use Rattle.un_baseline.specs.declared.plan.TheConstants.{PREDICATE}
 use Rattle.un_baseline.specs.Plans.{Step, BlockPlan, plan_values}
 
 -- ---- what copies of operands are for

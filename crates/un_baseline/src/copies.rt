@@ -5,24 +5,21 @@ ghost use Rattle.un_isa.specs.Tables.{latency_of};
 ghost use Rattle.un_isa.specs.declared.op.Op.TheVariants.{Reload};
 ghost use Rattle.un_ir.specs.Extended.{name_kind};
 ghost use Rattle.un_ir.specs.Linear.{first_of};
-ghost use Rattle.un_model.specs.Instructions.{copy_of, latency_by};
 ghost use Rattle.un_baseline.specs.SpillEverywhere.{slot_of, last_place, is_placed, kept_place, slot_at_start, move, no_move, spilled_to};
 ghost use Rattle.un_baseline.specs.SpillEverywhere.{kept_by_kind, first_copy, second_copy, result_wait, operand_copy, truth_copy};
 ghost use Rattle.un_baseline.specs.SpillEverywhere.{first_alts, copy_move, after_move, next_cycle, next_value, next_operand};
 
-use crate::plan::{
-    Definer, FROM_PREDICATE, Move, PREDICATE, Progress, Purpose, RELOAD, SPILL, Setting,
-    TO_PREDICATE,
-};
+use crate::plan::{Definer, Move, PREDICATE, Progress, Purpose, Setting};
 use un_base::ids::{NameId, TempId};
 use un_base::memory_error::NoMemory;
 use un_base::numbers::{later, number};
-use un_ir::extended::{Ext, ExtOp, NodeCopy};
+use un_ir::extended::{Ext, ExtOp, FROM_PREDICATE, NodeCopy, RELOAD, SPILL, TO_PREDICATE};
 use un_ir::function::{Kind, Term};
 use un_isa::op::Op;
 use un_isa::reg::{FIRST_SLOT, LINK};
 use un_isa::table::{Table, latency};
 use un_lists::items::Items;
+use un_model::instructions;
 
 /// The kind of a name.
 pub(crate) fn name_kind(names: &Items<Kind>, name: NameId) -> Kind
@@ -251,20 +248,6 @@ fn move_of(
     }
 }
 
-/// The latency of the instruction of a copy that has this number.
-fn copy_latency(t: &Table, instr: u32) -> u32
-    ensures { result ≡ latency_by t.now (copy_of instr) }
-{
-    match instr {
-        1 => latency(t, Op::Mov),
-        2 => latency(t, Op::Spill),
-        3 => latency(t, Op::Reload),
-        4 => latency(t, Op::P2R),
-        5 => latency(t, Op::R2P),
-        _ => 1,
-    }
-}
-
 /// The next cycle after a copy that issues in the cycle `now`, or does nothing.
 fn after_move(t: &Table, now: u32, m: &Move) -> Result<u32, NoMemory>
     ensures { IfOk result (λ next. next ≡ after_move t.now now m.now) }
@@ -272,7 +255,7 @@ fn after_move(t: &Table, now: u32, m: &Move) -> Result<u32, NoMemory>
     if m.instr == 0 {
         Ok(now)
     } else {
-        later(now, copy_latency(t, m.instr))
+        later(now, instructions::latency(t, instructions::copy(m.instr)))
     }
 }
 

@@ -4,18 +4,6 @@ use un_base::ids::NameId;
 use un_ir::function::Term;
 use un_isa::reg::GENERALS;
 
-/// The number of a copy's instruction that writes a frame slot.
-pub const SPILL: u32 = 2;
-
-/// The number of a copy's instruction that reads a frame slot.
-pub const RELOAD: u32 = 3;
-
-/// The number of a copy's instruction that moves a truth value from a predicate to a general register.
-pub const FROM_PREDICATE: u32 = 4;
-
-/// The number of a copy's instruction that moves a truth value from a general register to a predicate.
-pub const TO_PREDICATE: u32 = 5;
-
 /// The predicate that holds each truth value: p0.
 pub const PREDICATE: u32 = GENERALS;
 
@@ -69,12 +57,12 @@ pub struct Progress {
 /// What a copy does: all is 0 where it does nothing.
 #[derive(Clone, Copy)]
 pub struct Move {
-    /// The number of its instruction: 1 Mov, 2 Spill, 3 Reload, 4 P2R, 5 R2P, and 0 where it is inactive.
+    /// The number of its instruction: `MOVE`, `SPILL` and the others of copies, and 0 where it is inactive.
     pub instr: u32,
     /// The cycle in which it issues.
     pub cycle: u32,
     /// The place among its operand's alternatives of the temporary that it reads.
     pub place: u32,
-    /// The number of the register or slot that it writes: slots from 36 on.
+    /// The number of the register or slot that it writes: slots from `FIRST_SLOT` on.
     pub register: u32,
 }

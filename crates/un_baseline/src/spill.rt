@@ -1,6 +1,6 @@
 //! The values of the solution that spills every name, operation by operation.
 
-ghost use Rattle.std.specs.Prelude.{◌≡◌, All, unwrap_or, ◌<◌, ℕ, ◌+◌, ◌++◌, [], ◌∷◌, if◌then◌else◌, replicate, map, drop, true};
+ghost use Rattle.std.specs.Prelude.{◌≡◌, All, ◌<◌, ℕ, ◌+◌, ◌++◌, [], ◌∷◌, if◌then◌else◌, replicate, map, drop, true};
 ghost use Rattle.std.specs.Prelude.{MatchOption, length, slice_get, slice_index, IfOk, OnOk};
 ghost use Rattle.un_base.specs.declared.ids.TempId.{TempId};
 ghost use Rattle.un_isa.specs.Registers.{saved_registers};
@@ -10,10 +10,8 @@ ghost use Rattle.un_baseline.specs.declared.plan.Definer.TheVariants.{Start, Oth
 ghost use Rattle.un_baseline.specs.declared.plan.TheConstants.{PREDICATE};
 ghost use Rattle.un_ir.specs.declared.extended.ExtKind.TheVariants.{In, Out, Body, End, Copy, Enter, Leave};
 ghost use Rattle.un_ir.specs.declared.function.Term.{Term};
-ghost use Rattle.un_ir.specs.Extended.{is_copy};
-ghost use Rattle.un_ir.specs.Linear.{is_in};
-ghost use Rattle.un_model.specs.Congruences.{term_or, term_of, live_in_temps, KeepsCongruences};
-ghost use Rattle.un_model.specs.Instructions.{gives_truth, transfer_of, latency_by};
+ghost use Rattle.un_model.specs.Congruences.{KeepsCongruences};
+ghost use Rattle.un_model.specs.Instructions.{gives_truth};
 ghost use Rattle.un_model.specs.Pairs.{places_from};
 ghost use Rattle.un_model.specs.Schedules.{schedule_of};
 ghost use Rattle.un_model.specs.Solutions.{IsSolution};
@@ -38,13 +36,13 @@ use un_base::memory_error::NoMemory;
 use un_base::numbers::{later, number};
 use un_ir::extended::{Ext, ExtBlock, ExtKind, ExtOp, NodeCopy, Operand};
 use un_ir::function::{Kind, SrcOp, Term};
-use un_isa::facts::result_space;
 use un_isa::op::Op;
-use un_isa::reg::{FIRST_SLOT, LINK, Space};
-use un_isa::reg_set::callee_saved;
+use un_isa::reg::FIRST_SLOT;
+use un_isa::reg_set::saved_registers;
 use un_isa::table::{Table, latency};
 use un_lists::items::Items;
 use un_model::model::{Model, Solution};
+use un_model::{ends, instructions};
 
 /// The value of the frame flag where there is a frame.
 const FRAME_FLAG: u32 = 1;
@@ -83,23 +81,13 @@ fn purpose_of(term: Term, kind: &ExtKind, following: Purpose) -> Purpose
     }
 }
 
-/// Whether an operation is a copy.
-fn is_copy(kind: &ExtKind) -> bool
-    ensures { result ≡ is_copy kind.now }
-{
-    match kind {
-        ExtKind::Copy(_) => true,
-        _ => false,
-    }
-}
-
 /// What the copies of operands are for that stand first among the operations of a block from place `k` on.
 fn purpose_at(term: Term, ops: &Items<ExtOp>, k: usize) -> Purpose
     ensures { result ≡ purpose_at term (drop k ops.now) }
 {
     for i in k..ops.len() {
         let op = ops.get(i);
-        if !is_copy(&op.kind) {
+        if !op.kind.is_copy() {
             return purpose_of(term, &op.kind, Purpose::Unread);
         }
     }
@@ -295,26 +283,13 @@ fn end_cycle(t: &Table, term: Term, now: u32) -> Result<u32, NoMemory>
     }
 }
 
-/// The latency of a terminator, and 1 where there is none.
-fn transfer_latency(t: &Table, term: Term) -> u32
-    ensures { result ≡ latency_by t.now (transfer_of term) }
-{
-    match term {
-        Term::Fall => 1,
-        Term::Jump(_) => latency(t, Op::Jump),
-        Term::Branch { sense: true, .. } => latency(t, Op::JumpIf),
-        Term::Branch { sense: false, .. } => latency(t, Op::JumpIfNot),
-        Term::Ret(_) => latency(t, Op::Jumpr),
-    }
-}
-
 /// The next cycle after a terminator.
 fn after_end(t: &Table, term: Term, now: u32) -> Result<u32, NoMemory>
     ensures { IfOk result (λ next. next ≡ after_end t.now term now) }
 {
     match term {
         Term::Ret(_) => Ok(now),
-        _ => later(now, transfer_latency(t, term)),
+        _ => later(now, instructions::latency(t, instructions::transfer(term))),
     }
 }
 
@@ -405,9 +380,10 @@ fn assigning(name: Option<NameId>) -> Definer
 fn result_register(op: Op) -> u32
     ensures { result ≡ (if gives_truth op then PREDICATE else 0) }
 {
-    match result_space(op) {
-        Some(Space::P) => PREDICATE,
-        _ => 0,
+    if instructions::gives_truth(op) {
+        PREDICATE
+    } else {
+        0
     }
 }
 
@@ -560,51 +536,6 @@ fn plan_op(
     }
 }
 
-/// The terminator of an operation, where it is one.
-fn term_at(kind: &ExtKind) -> Option<Term>
-    ensures { (later : Term) → term_or kind.now later ≡ unwrap_or result later }
-{
-    match kind {
-        ExtKind::End(term) => Some(*term),
-        _ => None,
-    }
-}
-
-/// The terminator of a block with these operations.
-fn term_of(ops: &Items<ExtOp>) -> Term
-    ensures { result ≡ term_of ops.now }
-{
-    for i in 0..ops.len() {
-        if let Some(term) = term_at(&ops.get(i).kind) {
-            return term;
-        }
-    }
-    Term::Fall
-}
-
-/// Whether an operation is a block's start.
-fn is_start(kind: &ExtKind) -> bool
-    ensures { result ≡ is_in kind.now }
-{
-    match kind {
-        ExtKind::In => true,
-        _ => false,
-    }
-}
-
-/// The number of the first value at the start of a block with these operations, and how many there are.
-fn values_at_start(ops: &Items<ExtOp>) -> Result<(u32, u32), NoMemory>
-    ensures { IfOk result (λ (first, count). (first ≡ first_number (live_in_temps ops.now)) × (count ≡ length (live_in_temps ops.now))) }
-{
-    for i in 0..ops.len() {
-        let op = ops.get(i);
-        if is_start(&op.kind) {
-            return first_and_count(op.results.as_slice());
-        }
-    }
-    Ok((0, 0))
-}
-
 /// The number of the first of these temporaries, and how many there are.
 fn first_and_count(temps: &[TempId]) -> Result<(u32, u32), NoMemory>
     ensures { IfOk result (λ (first, count). (first ≡ first_number temps.now) × (count ≡ length temps.now)) }
@@ -620,11 +551,11 @@ fn first_and_count(temps: &[TempId]) -> Result<(u32, u32), NoMemory>
 fn setting(e: &Ext, is_entry: bool, block: &ExtBlock) -> Result<Setting, NoMemory>
     ensures { IfOk result (λ s. s ≡ setting_of e.now is_entry block.now) }
 {
-    let (first, values) = values_at_start(&block.ops)?;
+    let (first, values) = first_and_count(ends::live_in_temps(&block.ops))?;
     let placed = if is_entry { 0 } else { later(first, values)? };
     Ok(Setting {
         is_entry,
-        term: term_of(&block.ops),
+        term: ends::term(&block.ops),
         link: later(FIRST_SLOT, number(e.names.len())?)?,
         values,
         placed,
@@ -671,7 +602,7 @@ fn push_ops(
         let op = block.ops.get(k);
         purpose = purpose_in_row(in_row, purpose, s.term, &block.ops, k);
         p = plan_op(values, e, saved, block, s, &p, purpose, op)?;
-        in_row = is_copy(&op.kind);
+        in_row = op.kind.is_copy();
     }
     Ok(p)
 }
@@ -705,15 +636,6 @@ fn push_blocks(values: &mut Items<u32>, e: &Ext, saved: &[u32]) -> Result<(), No
         push_block(values, e, saved, k == 0, e.blocks.get(k))?;
     }
     Ok(())
-}
-
-/// The registers whose values at a function's entry are wanted at its return.
-fn saved_registers(alloc: Global, t: &Table) -> Result<Items<u32>, NoMemory>
-    ensures { IfOk result (λ registers. registers ≡ saved_registers t.now) }
-{
-    let mut registers = Items::from_vec(callee_saved(alloc, t)?);
-    registers.push(LINK)?;
-    Ok(registers)
 }
 
 /// The solution that keeps each name in a frame slot of its own: every operand is reloaded before its operation, every result

@@ -21,7 +21,6 @@ use std::alloc::{AllocError, Global};
 use std::marker::Model;
 use un_base::ids::VarId;
 use un_base::memory_error::NoMemory;
-use un_lists::items::Items;
 
 /// How many marks there may be at once.
 const MOST_MARKS: usize = u32::MAX as usize;
@@ -94,26 +93,13 @@ fn lay(
     Ok(())
 }
 
-/// The same domain once more.
-fn copy_domain(alloc: Global, domain: &Domain) -> Result<Domain, AllocError>
-    ensures { IfOk result (λ d. d ≡ domain.now) }
-{
-    match domain {
-        Domain::Range { lo, hi } => Ok(Domain::Range { lo: *lo, hi: *hi }),
-        Domain::Set(values) => {
-            let same = values.as_slice().to_vec(alloc)?;
-            Ok(Domain::Set(Items::from_vec(same)))
-        }
-    }
-}
-
 /// The same shapes once more.
 fn copy_shapes(alloc: Global, shapes: &[Shape]) -> Result<Vec<Shape>, AllocError>
     ensures { IfOk result (λ same. same.items ≡ shapes.now) }
 {
     let mut same = Vec::new(alloc);
     for shape in shapes {
-        let first = copy_domain(alloc, &shape.first)?;
+        let first = shape.first.copy(alloc)?;
         same.push(Shape {
             at: shape.at,
             n: shape.n,

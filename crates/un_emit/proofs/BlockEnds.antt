@@ -7,6 +7,7 @@ use Rattle.un_base.specs.declared.ids.TempId.{TempId}
 use Rattle.un_isa.specs.declared.op.Op.{Op}
 use Rattle.un_isa.specs.declared.op.Op.TheVariants.{Mov, Spill, Reload, P2R, R2P, Jump as JumpOp, JumpIf, JumpIfNot, Jumpr}
 use Rattle.un_isa.specs.declared.op.Op.TheVariants.{Enter as EnterOp, Leave as LeaveOp}
+use Rattle.un_isa.specs.declared.reg.TheConstants.{FIRST_SLOT}
 use Rattle.un_isa.specs.declared.instr.Instr.{Instr}
 use Rattle.un_ir.specs.declared.function.Kind.{Kind}
 use Rattle.un_ir.specs.declared.function.Kind.TheVariants.{Pred}
@@ -107,7 +108,7 @@ module _ (e : Ext) (o : Options) (values : List ℕ) (h : Solved e o values) (k 
       pub reading_is : Reading e o values h (let p = out_op in p.placed) i x want
       pub held : held_at u (range_at e o values (let v = reading_is.spot in v.temp.0)).reg ≡ as_held want.kind
           (range_at e o values (let v = reading_is.spot in v.temp.0)).reg (slice_index handed i)
-      pub ready : (range_at e o values (let v = reading_is.spot in v.temp.0)).reg < 36
+      pub ready : (range_at e o values (let v = reading_is.spot in v.temp.0)).reg < FIRST_SLOT
           → get_or u.ready (range_at e o values (let v = reading_is.spot in v.temp.0)).reg 0 ≤ u.cycle + 1
       pub truth : want.kind ≡ Pred → slice_index handed i < 2
 

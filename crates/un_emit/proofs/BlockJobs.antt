@@ -8,6 +8,7 @@ use Rattle.un_base.specs.declared.ids.TempId.{TempId}
 use Rattle.un_base.specs.declared.ids.VarId.{VarId}
 use Rattle.un_isa.specs.declared.op.Op.{Op}
 use Rattle.un_isa.specs.declared.op.Op.TheVariants.{Call, Spill, Reload, Enter as EnterOp, Leave as LeaveOp}
+use Rattle.un_isa.specs.declared.reg.TheConstants.{FIRST_SLOT}
 use Rattle.un_isa.specs.declared.reg.Reg.{Reg}
 use Rattle.un_isa.specs.declared.instr.Instr.{Instr}
 use Rattle.un_ir.specs.declared.function.Kind.TheVariants.{Pred}
@@ -221,7 +222,7 @@ module _ (e : Ext) (o : Options) (values : List ℕ) (h : Solved e o values) whe
   pub record Placing (slots : ℕ) : Type 0 where
     pub truths : (p : Placed) (node : NodeCopy) → Member p (all e o values) → p.op.kind ≡ Copy node → 4 ≤ value_by values (vars_of p).instr
         → (y : TempId) → p.op.results ≡ y ∷ [] → (let T = temps_of e o values h p.block in T.kind y.0) ≡ Pred
-    pub within : (k : ℕ) → (range_at e o values k).active ≡ true → (range_at e o values k).reg < 36 + slots
+    pub within : (k : ℕ) → (range_at e o values k).active ≡ true → (range_at e o values k).reg < FIRST_SLOT + slots
     pub not_stack : (k : ℕ) → (range_at e o values k).active ≡ true → (range_at e o values k).reg ≢ 29
 
   pub active_of : (k b : ℕ) → (let T = temps_of e o values h b in T.active k ≡ true) → ((range_at e o values k).active ≡ true)

@@ -5,7 +5,7 @@ use Rattle.std.specs.Prelude.{not, Some, slice_get, slice_index}
 use Rattle.un_base.specs.declared.ids.TempId.{TempId}
 use Rattle.un_isa.specs.Fit.{IsFit}
 use Rattle.un_isa.specs.Tables.{in_mask}
-use Rattle.un_isa.specs.declared.reg.TheConstants.{STACK}
+use Rattle.un_isa.specs.declared.reg.TheConstants.{STACK, REGISTERS, FIRST_SLOT}
 use Rattle.un_isa.specs.declared.table.Table.{Table}
 use Rattle.un_ir.specs.declared.function.Kind.TheVariants.{Pred}
 use Rattle.un_ir.specs.declared.extended.ExtKind.{ExtKind}
@@ -133,8 +133,8 @@ module _ (e : Ext) (o : Options) (values : List ℕ) (h : Solved e o values) (k 
 
   -- where the values stand at the block's start
   pub record AtStart (base : ℕ) (taken : List ℕ) (w : World) (s : PacketState) : Type 0 where
-    pub regs_long : length s.regs ≡ 36
-    pub ready_long : length s.ready ≡ 36
+    pub regs_long : length s.regs ≡ REGISTERS
+    pub ready_long : length s.ready ≡ REGISTERS
     pub frame_long : length s.frame ≡ words e o values h
     pub frame_start : s.frame_start ≡ base
     pub world : record { memory = s.memory; calls = s.calls; replies = s.replies } ≡ w
@@ -142,7 +142,7 @@ module _ (e : Ext) (o : Options) (values : List ℕ) (h : Solved e o values) (k 
     pub places : (j : ℕ) (x : TempId) → slice_get (in_temps block.ops) j ≡ Some x
         → held_at s (range_at e o values x.0).reg ≡ as_held (kind_at e o values (numbered e o values h) (fit_kinds e o values h) x.0)
         (range_at e o values x.0).reg (slice_index taken j)
-    pub ready : (j : ℕ) (x : TempId) → slice_get (in_temps block.ops) j ≡ Some x → (range_at e o values x.0).reg < 36
+    pub ready : (j : ℕ) (x : TempId) → slice_get (in_temps block.ops) j ≡ Some x → (range_at e o values x.0).reg < FIRST_SLOT
         → get_or s.ready (range_at e o values x.0).reg 0 ≤ s.cycle + 1
     pub truths : (j : ℕ) (x : TempId) → slice_get (in_temps block.ops) j ≡ Some x
         → kind_at e o values (numbered e o values h) (fit_kinds e o values h) x.0 ≡ Pred → slice_index taken j < 2
@@ -235,7 +235,8 @@ module _ (e : Ext) (o : Options) (values : List ℕ) (h : Solved e o values) (k 
           let f = from_start base room x st in
           let u = f.0 in
           let v = start_value taken w u f.1 f.3 f.4 a.taken_long in
-          let small : (range_at e o values u.temp.0).reg < 36 = subst (λ n. (range_at e o values n).reg < 36) (sym f.2) lt in
+          let small : (range_at e o values u.temp.0).reg < FIRST_SLOT =
+              subst (λ n. (range_at e o values n).reg < FIRST_SLOT) (sym f.2) lt in
           let z = a.ready u.place u.temp v.0 small in
           let lat : latency_by e.table (range_at e o values x).instr ≡ 1 =
           ap (λ n. latency_by e.table (range_at e o values n).instr) (sym f.2)

@@ -10,7 +10,7 @@ use Rattle.un_isa.specs.declared.op.Op.TheVariants.{Load, Store, Call, Jump, Jum
 use Rattle.un_isa.specs.declared.reg.Reg.{Reg}
 use Rattle.un_isa.specs.declared.instr.Instr.{Instr}
 use Rattle.un_isa.specs.declared.table.Table.{Table}
-use Rattle.un_isa.specs.declared.reg.TheConstants.{STACK}
+use Rattle.un_isa.specs.declared.reg.TheConstants.{STACK, FIRST_SLOT}
 use Rattle.un_packet.specs.Step.{PacketState, is_call, is_return, traps_by, jumps_by, value_by, reads_by, reg_in}
 use Rattle.un_model.proofs.Lists.{Each, Pairwise, Member, each_member, each_of, each_map, pairwise_more, pairwise_map}
 use Rattle.un_emit.proofs.Packet.{moves_stack, target, target_by, is_store, slot_by, AreApart}
@@ -171,9 +171,9 @@ each_read P _ i h k = k
 
 -- a register that stands for a temporary which may be read now
 abbrev pub IsSource : Temps → ℕ → ℕ → Type 0
-IsSource T c r = (x : ℕ) × (IsReadAt T x c) × (T.place x ≡ r) × (r < 36)
+IsSource T c r = (x : ℕ) × (IsReadAt T x c) × (T.place x ≡ r) × (r < FIRST_SLOT)
 
-all_sources : (T : Temps) (c : ℕ) (xs : List ℕ) → Each (λ x. IsReadAt T x c) xs → Each (λ x. T.place x < 36) xs
+all_sources : (T : Temps) (c : ℕ) (xs : List ℕ) → Each (λ x. IsReadAt T x c) xs → Each (λ x. T.place x < FIRST_SLOT) xs
     → Each (IsSource T c) (map T.place xs)
 all_sources T c [] h k = tt
 all_sources T c (x ∷ xs) h k = ((x, h.0, refl, k.0), all_sources T c xs h.1 k.1)
@@ -181,7 +181,7 @@ all_sources T c (x ∷ xs) h k = ((x, h.0, refl, k.0), all_sources T c xs h.1 k.
 read_sources : (T : Temps) (j : Job) → ReadsAll T j → Each (IsSource T j.cycle) (numbers j.instr.srcs)
 read_sources T j r = subst (Each (IsSource T j.cycle)) (sym r.srcs) (all_sources T j.cycle j.reads r.read r.regs)
 
-one_source : (t : Table) (T : Temps) (j : Job) (x y : ℕ) → Copies t T j x y → numbers j.instr.srcs ≡ T.place x ∷ [] → T.place x < 36
+one_source : (t : Table) (T : Temps) (j : Job) (x y : ℕ) → Copies t T j x y → numbers j.instr.srcs ≡ T.place x ∷ [] → T.place x < FIRST_SLOT
     → Each (IsSource T j.cycle) (numbers j.instr.srcs)
 one_source t T j x y c e lt = subst (Each (IsSource T j.cycle)) (sym e) ((x, c.read, refl, lt), tt)
 
@@ -240,11 +240,15 @@ lands_there : (t : Table) (T : Temps) (j : Job) (x y : ℕ) → Gives t T j y �
     → option_map (λ (q : Reg). q.0) j.instr.dst ≡ Some (T.place y) → j.gives ≡ Some x → Lands t T j x
 lands_there t T j x y g m d e = let k : y ≡ x = cc (g.gives, e) in inl (target_of j.instr.op j.instr m ∙ d ∙ ap (λ z. Some (T.place z)) k)
 
-pub lands : (t : Table) (T : Temps) (slots : ℕ) (j : Job) (x : ℕ) → Deed t T slots j → j.gives ≡ Some x → T.place x < 36 → Lands t T j x
+pub lands : (t : Table) (T : Temps) (slots : ℕ) (j : Job) (x : ℕ) → Deed t T slots j → j.gives ≡ Some x → T.place x < FIRST_SLOT
+    → Lands t T j x
 lands t T slots j x (computes y a n q g p) e lt = lands_there t T j x y g.given (alu_op j.instr.op a).shifts g.dst e
 lands t T slots j x (moves w y o c p q) e lt = lands_there t T j x y c.copies.given (ap moves_stack o) c.dst e
-lands t T slots j x (spills w y o c s d p q) e lt = let k : y ≡ x = cc (c.given.gives, e) in let h = q.slot in let g : 36 ≤ T.place x =
-    subst (λ z. 36 ≤ T.place z) k h in absurd (omega arith)
+lands t T slots j x (spills w y o c s d p q) e lt =
+    let k : y ≡ x = cc (c.given.gives, e) in
+    let h = q.slot in
+    let g : FIRST_SLOT ≤ T.place x = subst (λ z. FIRST_SLOT ≤ T.place z) k h in
+    absurd (omega arith)
 lands t T slots j x (reloads w y o c s d p q) e lt = lands_there t T j x y c.given (ap moves_stack o) d e
 lands t T slots j x (from_pred w y o c k p q r) e lt = lands_there t T j x y c.copies.given (ap moves_stack o) c.dst e
 lands t T slots j x (to_pred w y o c k p q r) e lt = lands_there t T j x y c.copies.given (ap moves_stack o) c.dst e

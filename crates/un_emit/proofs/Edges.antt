@@ -9,6 +9,7 @@ use Rattle.std.proofs.lemmas.List.{length-append}
 use Rattle.un_base.specs.declared.ids.NameId.{NameId}
 use Rattle.un_base.specs.declared.ids.TempId.{TempId}
 use Rattle.un_isa.specs.Registers.{saved_registers}
+use Rattle.un_isa.specs.declared.reg.TheConstants.{FIRST_SLOT}
 use Rattle.un_ir.specs.Live.{targets_of}
 use Rattle.un_ir.specs.declared.function.Kind.{Kind}
 use Rattle.un_ir.specs.declared.function.Kind.TheVariants.{General, Pred}
@@ -332,7 +333,7 @@ module _ (e : Ext) (o : Options) (values : List ℕ) (h : Solved e o values) (k 
     pub record Arrives (j : ℕ) (x : TempId) : Type 0 where
       pub held : held_at u (range_at e o values x.0).reg ≡ as_held (kind_at e o values (numbered e o values h) (fit_kinds e o values h) x.0)
           (range_at e o values x.0).reg (slice_index (taken_by block over next) j)
-      pub ready : (range_at e o values x.0).reg < 36 → get_or u.ready (range_at e o values x.0).reg 0 ≤ u.cycle + 1
+      pub ready : (range_at e o values x.0).reg < FIRST_SLOT → get_or u.ready (range_at e o values x.0).reg 0 ≤ u.cycle + 1
       pub truth : kind_at e o values (numbered e o values h) (fit_kinds e o values h) x.0 ≡ Pred
           → slice_index (taken_by block over next) j < 2
 
@@ -357,7 +358,7 @@ module _ (e : Ext) (o : Options) (values : List ℕ) (h : Solved e o values) (k 
               (g.held ∙ ap (λ (y : Kind). as_held y (range_at e o values v.temp.0).reg (slice_index over i)) (sym kd)
               ∙ ap (as_held (kind_at e o values (numbered e o values h) (fit_kinds e o values h) x.0)
               (range_at e o values v.temp.0).reg) (sym val));
-          ready = λ lt. subst (λ n. get_or u.ready n 0 ≤ u.cycle + 1) reg (g.ready (subst (λ n. n < 36) (sym reg) lt));
+          ready = λ lt. subst (λ n. get_or u.ready n 0 ≤ u.cycle + 1) reg (g.ready (subst (λ n. n < FIRST_SLOT) (sym reg) lt));
           truth = λ y. subst (λ n. n < 2) (sym val) (g.truth (sym kd ∙ y));
         }
       where

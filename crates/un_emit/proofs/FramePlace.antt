@@ -8,7 +8,7 @@ use Rattle.un_isa.specs.Words.{address_of, word_of, sum_of}
 use Rattle.un_isa.specs.declared.instr.Instr.{Instr}
 use Rattle.un_ir.specs.declared.function.Kind.{Kind}
 use Rattle.un_ir.specs.declared.function.Kind.TheVariants.{General, Pred}
-use Rattle.un_isa.specs.declared.reg.TheConstants.{STACK}
+use Rattle.un_isa.specs.declared.reg.TheConstants.{STACK, GENERALS, FIRST_SLOT}
 use Rattle.un_packet.specs.Step.{PacketState, frame_place}
 use Rattle.un_simulation.specs.Simulation.{as_held, held_at}
 
@@ -67,25 +67,29 @@ frame_place_is s i base slots n f stack start long lt e =
 
 -- ---- what stands at a place
 
-pub held_reg : (s : PacketState) (p : ℕ) → p < 36 → held_at s p ≡ get_or s.regs p 0
-held_reg s p lt = let h = lt_true p 36 lt in rw h refl
+pub held_reg : (s : PacketState) (p : ℕ) → p < FIRST_SLOT → held_at s p ≡ get_or s.regs p 0
+held_reg s p lt = let h = lt_true p FIRST_SLOT lt in rw h refl
 
-pub held_slot : (s : PacketState) (p : ℕ) → 36 ≤ p → held_at s p ≡ get_or s.frame (p - 36) 0
-held_slot s p le = let h = lt_false p 36 le in rw h refl
+pub held_slot : (s : PacketState) (p : ℕ) → FIRST_SLOT ≤ p → held_at s p ≡ get_or s.frame (p - FIRST_SLOT) 0
+held_slot s p le = let h = lt_false p FIRST_SLOT le in rw h refl
 
 -- a place that is no predicate register
 abbrev pub IsWide : ℕ → Type 0
-IsWide p = (p < 32) ⊎ (36 ≤ p)
+IsWide p = (p < GENERALS) ⊎ (FIRST_SLOT ≤ p)
 
-wide_test : (p : ℕ) → IsWide p → (nat_le 32 p && nat_lt p 36) ≡ false
-wide_test p (inl lt) = let h = le_false 32 p lt in rw h refl
-wide_test p (inr le) = let h = lt_false p 36 le in elim (nat_le 32 p) as (λ b. (b && nat_lt p 36) ≡ false) [ true ↦ h | false ↦ refl ]
+wide_test : (p : ℕ) → IsWide p → (nat_le GENERALS p && nat_lt p FIRST_SLOT) ≡ false
+wide_test p (inl lt) = let h = le_false GENERALS p lt in rw h refl
+wide_test p (inr le) = let h = lt_false p FIRST_SLOT le in
+    elim (nat_le GENERALS p) as (λ b. (b && nat_lt p FIRST_SLOT) ≡ false) [ true ↦ h | false ↦ refl ]
 
 pub held_wide : (p v : ℕ) → IsWide p → as_held Pred p v ≡ v * 255
 held_wide p v h = let e = wide_test p h in ap (λ (b : Bool). if b then v else v * 255) e
 
-pub held_pred : (p v : ℕ) → 32 ≤ p → p < 36 → as_held Pred p v ≡ v
-held_pred p v le lt = let a = le_true 32 p le in let b = lt_true p 36 lt in let e : (nat_le 32 p && nat_lt p 36) ≡ true = rw (a, b) refl in
+pub held_pred : (p v : ℕ) → GENERALS ≤ p → p < FIRST_SLOT → as_held Pred p v ≡ v
+held_pred p v le lt =
+    let a = le_true GENERALS p le in
+    let b = lt_true p FIRST_SLOT lt in
+    let e : (nat_le GENERALS p && nat_lt p FIRST_SLOT) ≡ true = rw (a, b) refl in
     ap (λ (b : Bool). if b then v else v * 255) e
 
 -- in two such places a value stands alike

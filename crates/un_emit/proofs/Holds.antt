@@ -15,7 +15,7 @@ use Rattle.un_isa.specs.declared.instr.Instr.{Instr}
 use Rattle.un_isa.specs.declared.table.Table.{Table}
 use Rattle.un_ir.specs.declared.function.Kind.{Kind}
 use Rattle.un_ir.specs.declared.function.Kind.TheVariants.{Pred}
-use Rattle.un_isa.specs.declared.reg.TheConstants.{STACK}
+use Rattle.un_isa.specs.declared.reg.TheConstants.{STACK, GENERALS, REGISTERS, FIRST_SLOT}
 use Rattle.un_packet.specs.Step.{PacketState, value_of, value_by, reg_in, operand_in, frame_place, is_call}
 use Rattle.un_simulation.specs.Simulation.{as_held, held_at}
 use Rattle.un_model.proofs.Lists.{Each, Member, each_member, each_of, each_map, member_map, member_map_of, found, none_found, pairwise_map}
@@ -55,7 +55,7 @@ pub record Stacks (stack : ℕ → ℕ) (base c : ℕ) (js : List Job) : Type 0 
 
 -- after cycle c
 pub record Holds (T : Temps) (val : ℕ → ℕ) (stack : ℕ → ℕ) (base slots c : ℕ) (s : PacketState) : Type 0 where
-  pub long : length s.regs ≡ 36
+  pub long : length s.regs ≡ REGISTERS
   pub frame : length s.frame ≡ slots
   pub start : s.frame_start ≡ base
   pub held : (x : ℕ) → Stands T x c → held_at s (T.place x) ≡ as_held (T.kind x) (T.place x) (val x)
@@ -75,12 +75,12 @@ values_of_places T val s (x ∷ xs) h = ap (λ v. v ∷ map (slice_index s.regs)
 
 module _ (t : Table) (T : Temps) (val : ℕ → ℕ) (stack : ℕ → ℕ) (base slots c : ℕ) where
   -- a register that is read in the next cycle holds its temporary's value
-  pub reg_holds : (s : PacketState) (x : ℕ) → AreTemps T slots → Holds T val stack base slots c s → IsReadAt T x (c + 1) → T.place x < 36
-      → get_or s.regs (T.place x) 0 ≡ as_held (T.kind x) (T.place x) (val x)
+  pub reg_holds : (s : PacketState) (x : ℕ) → AreTemps T slots → Holds T val stack base slots c s → IsReadAt T x (c + 1)
+      → T.place x < FIRST_SLOT → get_or s.regs (T.place x) 0 ≡ as_held (T.kind x) (T.place x) (val x)
   reg_holds s x h k r lt = sym (held_reg s (T.place x) lt) ∙ k.held x (stands_before T slots c x h r)
 
   each_holds : (s : PacketState) (xs : List ℕ) → AreTemps T slots → Holds T val stack base slots c s → Each (λ x. IsReadAt T x (c + 1)) xs
-      → Each (λ x. T.place x < 36) xs → Each (λ x. IsPlain T x) xs → Each (λ x. get_or s.regs (T.place x) 0 ≡ val x) xs
+      → Each (λ x. T.place x < FIRST_SLOT) xs → Each (λ x. IsPlain T x) xs → Each (λ x. get_or s.regs (T.place x) 0 ≡ val x) xs
   each_holds s [] h k r lt p = tt
   each_holds s (x ∷ xs) h k r lt p = (reg_holds s x h k r.0 lt.0 ∙ p.0 (val x), each_holds s xs h k r.1 lt.1 p.1)
 
@@ -98,7 +98,7 @@ module _ (t : Table) (T : Temps) (val : ℕ → ℕ) (stack : ℕ → ℕ) (base
   one_operand s j x e = values_of_numbers s j.instr.srcs ∙ ap (map (slice_index s.regs)) e
 
   copied_from : (s : PacketState) (j : Job) (x y : ℕ) → AreTemps T slots → Holds T val stack base slots c s → j.cycle ≡ c + 1
-      → Copies t T j x y → T.place x < 36 → get_or s.regs (T.place x) 0 ≡ as_held (T.kind x) (T.place x) (val x)
+      → Copies t T j x y → T.place x < FIRST_SLOT → get_or s.regs (T.place x) 0 ≡ as_held (T.kind x) (T.place x) (val x)
   copied_from s j x y h k now q lt = reg_holds s x h k (subst (IsReadAt T x) now q.read) lt
 
   -- ---- what a copy gives
@@ -146,14 +146,15 @@ module _ (t : Table) (T : Temps) (val : ℕ → ℕ) (stack : ℕ → ℕ) (base
 
   pub frame_at : (s : PacketState) (j : Job) (x : ℕ) → IsFrame base slots → Holds T val stack base slots c s
       → (uses_frame j.instr.op ≡ true → stack c ≡ base) → uses_frame j.instr.op ≡ true → IsInSlot T slots j x
-      → frame_place s j.instr ≡ Some (T.place x - 36)
-  frame_at s j x f k st u q = frame_place_is s j.instr base slots (T.place x - 36) f (k.stack_is ∙ st u) k.start k.frame q.within q.imm
+      → frame_place s j.instr ≡ Some (T.place x - FIRST_SLOT)
+  frame_at s j x f k st u q =
+      frame_place_is s j.instr base slots (T.place x - FIRST_SLOT) f (k.stack_is ∙ st u) k.start k.frame q.within q.imm
 
   -- what a job gives in a register that it writes itself
   pub gives_value : (s : PacketState) (j : Job) (x : ℕ) → AreTemps T slots → AreTruths T val → IsFrame base slots
       → Holds T val stack base slots c s → j.cycle ≡ c + 1 → Flows val j
       → (uses_frame j.instr.op ≡ true → stack c ≡ base) → (j.instr.op ≡ Load → (y : ℕ) → j.gives ≡ Some y → val y ≡ value_of s j.instr)
-      → Deed t T slots j → j.gives ≡ Some x → T.place x < 36 → (j.instr.op ≡ Call → ⊥)
+      → Deed t T slots j → j.gives ≡ Some x → T.place x < FIRST_SLOT → (j.instr.op ≡ Call → ⊥)
       → given s j.instr ≡ as_held (T.kind x) (T.place x) (val x)
   gives_value s j x h tr fr k now f st ld (computes y a n r g p) e lt nc =
       let q : y ≡ x = let z = g.given in cc (z.gives, e) in
@@ -167,12 +168,12 @@ module _ (t : Table) (T : Temps) (val : ℕ → ℕ) (stack : ℕ → ℕ) (base
       mov_value s j.instr (get_or s.regs (T.place w) 0) o (one_operand s j w q.srcs) ∙ copied_from s j w y h k now z (omega arith)
       ∙ held_alike (T.kind w) (T.place w) (T.place y) (val w) (inl lx) (inl ly) ∙ same_value j w y f (ap is_copy o) z)
   gives_value s j x h tr fr k now f st ld (spills w y o z sr d p q) e lt nc =
-      let g = z.given in let same : y ≡ x = cc (g.gives, e) in let b = q.slot in let b' : 36 ≤ T.place x =
-      subst (λ n. 36 ≤ T.place n) same b in absurd (omega arith)
+      let g = z.given in let same : y ≡ x = cc (g.gives, e) in let b = q.slot in let b' : FIRST_SLOT ≤ T.place x =
+      subst (λ n. FIRST_SLOT ≤ T.place n) same b in absurd (omega arith)
   gives_value s j x h tr fr k now f st ld (reloads w y o z sr d q ly) e lt nc =
       let g = z.given in let same : y ≡ x = cc (g.gives, e) in
       subst (λ z. given s j.instr ≡ as_held (T.kind z) (T.place z) (val z)) same (
-      reload_value s j.instr (T.place w - 36) o (frame_at s j w fr k st (ap uses_frame o) q)
+      reload_value s j.instr (T.place w - FIRST_SLOT) o (frame_at s j w fr k st (ap uses_frame o) q)
       ∙ sym (held_slot s (T.place w) q.slot) ∙ k.held w (stands_before T slots c w h (subst (IsReadAt T w) now z.read))
       ∙ held_alike (T.kind w) (T.place w) (T.place y) (val w) (inr q.slot) (inl ly) ∙ same_value j w y f (ap is_copy o) z)
   gives_value s j x h tr fr k now f st ld (from_pred w y o q kind lo hi ly) e lt nc =
@@ -214,16 +215,16 @@ module _ (t : Table) (T : Temps) (val : ℕ → ℕ) (stack : ℕ → ℕ) (base
 
   -- the word of the frame that a job writes is the slot of what it gives
   abbrev pub WritesSlot : Job → ℕ → Type 0
-  WritesSlot j r = (j.instr.op ≡ Spill) × ((x : ℕ) × (Gives t T j x) × (36 ≤ T.place x) × (T.place x - 36 ≡ r))
+  WritesSlot j r = (j.instr.op ≡ Spill) × ((x : ℕ) × (Gives t T j x) × (FIRST_SLOT ≤ T.place x) × (T.place x - FIRST_SLOT ≡ r))
 
   writes_slot : (s : PacketState) (j : Job) (r : ℕ) → IsFrame base slots → Holds T val stack base slots c s
       → (uses_frame j.instr.op ≡ true → stack c ≡ base) → Deed t T slots j → slot s j.instr ≡ Some r → WritesSlot j r
   writes_slot s j r fr k st (computes y a n q g p) e = absurd (no_slot s j.instr j.instr.op r refl ((alu_op j.instr.op a).slot s j.instr) e)
   writes_slot s j r fr k st (moves w y o q lx ly) e = absurd (no_slot s j.instr Mov r o refl e)
   writes_slot s j r fr k st (spills w y o z sr d p q) e =
-      let g : Some (T.place y - 36) ≡ Some r = sym (slot_of_spill s j.instr (T.place y - 36) o (frame_at s j y fr k st (ap uses_frame o) q))
-      ∙ e in
-      let n : T.place y - 36 ≡ r = cc g in (o, (y, z.given, q.slot, n))
+      let g : Some (T.place y - FIRST_SLOT) ≡ Some r =
+          sym (slot_of_spill s j.instr (T.place y - FIRST_SLOT) o (frame_at s j y fr k st (ap uses_frame o) q)) ∙ e in
+      let n : T.place y - FIRST_SLOT ≡ r = cc g in (o, (y, z.given, q.slot, n))
   writes_slot s j r fr k st (reloads w y o z sr d q ly) e = absurd (no_slot s j.instr Reload r o refl e)
   writes_slot s j r fr k st (from_pred w y o q kind lo hi ly) e = absurd (no_slot s j.instr P2R r o refl e)
   writes_slot s j r fr k st (to_pred w y o q kind lw lo hi) e = absurd (no_slot s j.instr R2P r o refl e)
@@ -237,27 +238,28 @@ module _ (t : Table) (T : Temps) (val : ℕ → ℕ) (stack : ℕ → ℕ) (base
   -- what a job gives in a slot
   gives_slot : (s : PacketState) (j : Job) (x : ℕ) → AreTemps T slots → IsFrame base slots → Holds T val stack base slots c s
       → j.cycle ≡ c + 1 → Flows val j → (uses_frame j.instr.op ≡ true → stack c ≡ base)
-      → Deed t T slots j → CallsFit t → 36 ≤ T.place x → T.place x - 36 < slots → j.gives ≡ Some x
-      → (slot s j.instr ≡ Some (T.place x - 36)) × (operand_in s j.instr 0 ≡ as_held (T.kind x) (T.place x) (val x))
+      → Deed t T slots j → CallsFit t → FIRST_SLOT ≤ T.place x → T.place x - FIRST_SLOT < slots → j.gives ≡ Some x
+      → (slot s j.instr ≡ Some (T.place x - FIRST_SLOT)) × (operand_in s j.instr 0 ≡ as_held (T.kind x) (T.place x) (val x))
   gives_slot s j x h fr k now f st (computes y a n q g p) fit le lt e = let z = g.given in let same : y ≡ x = cc (z.gives, e) in let b =
-      g.reg in let b' : T.place x < 36 = subst (λ n. T.place n < 36) same b in absurd (omega arith)
+      g.reg in let b' : T.place x < FIRST_SLOT = subst (λ n. T.place n < FIRST_SLOT) same b in absurd (omega arith)
   gives_slot s j x h fr k now f st (moves w y o q lx ly) fit le lt e = let z = q.copies in let g = z.given in let same : y ≡ x =
-      cc (g.gives, e) in let b' : T.place x < 32 = subst (λ n. T.place n < 32) same ly in absurd (omega arith)
+      cc (g.gives, e) in let b' : T.place x < GENERALS = subst (λ n. T.place n < GENERALS) same ly in absurd (omega arith)
   gives_slot s j x h fr k now f st (spills w y o z sr d p q) fit le lt e =
       let g = z.given in let same : y ≡ x = cc (g.gives, e) in
-      subst (λ n. (slot s j.instr ≡ Some (T.place n - 36)) × (operand_in s j.instr 0 ≡ as_held (T.kind n) (T.place n) (val n))) same (
-        slot_of_spill s j.instr (T.place y - 36) o (frame_at s j y fr k st (ap uses_frame o) q),
+      subst (λ n. (slot s j.instr ≡ Some (T.place n - FIRST_SLOT))
+          × (operand_in s j.instr 0 ≡ as_held (T.kind n) (T.place n) (val n))) same (
+        slot_of_spill s j.instr (T.place y - FIRST_SLOT) o (frame_at s j y fr k st (ap uses_frame o) q),
         ap (λ vs. slice_index vs 0) (one_operand s j w sr) ∙ copied_from s j w y h k now z (omega arith)
             ∙ held_alike (T.kind w) (T.place w) (T.place y) (val w) (inl p) (inr q.slot) ∙ same_value j w y f (ap is_copy o) z,
       )
   gives_slot s j x h fr k now f st (reloads w y o z sr d q ly) fit le lt e = let g = z.given in let same : y ≡ x = cc (g.gives, e) in
-      let b' : T.place x < 32 = subst (λ n. T.place n < 32) same ly in absurd (omega arith)
+      let b' : T.place x < GENERALS = subst (λ n. T.place n < GENERALS) same ly in absurd (omega arith)
   gives_slot s j x h fr k now f st (from_pred w y o q kind lo hi ly) fit le lt e = let z = q.copies in let g = z.given in let same : y ≡ x =
-      cc (g.gives, e) in let b' : T.place x < 32 = subst (λ n. T.place n < 32) same ly in absurd (omega arith)
+      cc (g.gives, e) in let b' : T.place x < GENERALS = subst (λ n. T.place n < GENERALS) same ly in absurd (omega arith)
   gives_slot s j x h fr k now f st (to_pred w y o q kind lw lo hi) fit le lt e = let z = q.copies in let g = z.given in let same : y ≡ x =
-      cc (g.gives, e) in let b' : T.place x < 36 = subst (λ n. T.place n < 36) same hi in absurd (omega arith)
+      cc (g.gives, e) in let b' : T.place x < FIRST_SLOT = subst (λ n. T.place n < FIRST_SLOT) same hi in absurd (omega arith)
   gives_slot s j x h fr k now f st (loads y o q g p) fit le lt e = let z = g.given in let same : y ≡ x = cc (z.gives, e) in let b = g.reg in
-      let b' : T.place x < 36 = subst (λ n. T.place n < 36) same b in absurd (omega arith)
+      let b' : T.place x < FIRST_SLOT = subst (λ n. T.place n < FIRST_SLOT) same b in absurd (omega arith)
   gives_slot s j x h fr k now f st (stores o q g d) fit le lt e = absurd (cc (g, e))
   gives_slot s j x h fr k now f st (calls o q d (inl g)) fit le lt e = absurd (cc (g, e))
   gives_slot s j x h fr k now f st (calls o q d (inr g)) fit le lt e = let z = g.1 in let same : g.0 ≡ x = cc (z.gives, e) in
@@ -292,10 +294,11 @@ module _ (t : Table) (T : Temps) (val : ℕ → ℕ) (stack : ℕ → ℕ) (base
         b (now_at i m ∙ sym (now_at j n)) (ap writes_memory x.0) (ap writes_memory y.0)) w.one_write)
 
     -- no job writes the slot of a temporary that stands from before
-    slot_unwritten : (x : ℕ) → Stands T x (c + 1) → T.from x ≤ c → 36 ≤ T.place x → Each (λ i. slot s i ≢ Some (T.place x - 36)) (instrs js)
-    slot_unwritten x st old le = each_map (λ i. slot s i ≢ Some (T.place x - 36)) (λ (j : Job). j.instr) js
-        (each_of (λ (j : Job). slot s j.instr ≢ Some (T.place x - 36)) js (λ j m e.
-        let q = (slot_of j (T.place x - 36) m e).1 in
+    slot_unwritten : (x : ℕ) → Stands T x (c + 1) → T.from x ≤ c → FIRST_SLOT ≤ T.place x
+        → Each (λ i. slot s i ≢ Some (T.place x - FIRST_SLOT)) (instrs js)
+    slot_unwritten x st old le = each_map (λ i. slot s i ≢ Some (T.place x - FIRST_SLOT)) (λ (j : Job). j.instr) js
+        (each_of (λ (j : Job). slot s j.instr ≢ Some (T.place x - FIRST_SLOT)) js (λ j m e.
+        let q = (slot_of j (T.place x - FIRST_SLOT) m e).1 in
         let g = q.1 in
         let cj = now_at j m in
         let a = h.spans q.0 g.active in
@@ -329,8 +332,8 @@ module _ (t : Table) (T : Temps) (val : ℕ → ℕ) (stack : ℕ → ℕ) (base
       long = length-settled_regs t o s.replies s is can ∙ k.long;
       frame = ap length frames ∙ length-puts (slot s) (λ i. operand_in s i 0) is s.frame ∙ k.frame;
       start = settled_frame_start t o s.replies s is can ∙ k.start;
-      held = λ x st. ⊎_elim (λ (lt : T.place x < 36). held_reg u (T.place x) lt ∙ in_reg x st lt)
-          (λ (le : 36 ≤ T.place x). held_slot u (T.place x) le ∙ in_slot x st le) (cases_lt (T.place x) 36);
+      held = λ x st. ⊎_elim (λ (lt : T.place x < FIRST_SLOT). held_reg u (T.place x) lt ∙ in_reg x st lt)
+          (λ (le : FIRST_SLOT ≤ T.place x). held_slot u (T.place x) le ∙ in_slot x st le) (cases_lt (T.place x) FIRST_SLOT);
       stack_is = shift_or_not (find (λ (i : Instr). moves_stack i.op) is) refl;
     }
       where
@@ -343,7 +346,7 @@ module _ (t : Table) (T : Temps) (val : ℕ → ℕ) (stack : ℕ → ℕ) (base
         frames : (settled t o s.replies s (instrs js)).frame ≡ puts (slot s) (λ i. operand_in s i 0) (instrs js) s.frame
         frames = settled_frame t o s.replies s (instrs js) can
 
-        long : (x : ℕ) → T.place x < 36 → T.place x < length s.regs
+        long : (x : ℕ) → T.place x < FIRST_SLOT → T.place x < length s.regs
         long x lt = let a = k.long in omega arith
 
         before : (x : ℕ) → Stands T x (c + 1) → T.from x < c + 1 → Stands T x c
@@ -352,7 +355,7 @@ module _ (t : Table) (T : Temps) (val : ℕ → ℕ) (stack : ℕ → ℕ) (base
         deed : (j : Job) → Member j js → Deed t T slots j
         deed j m = each_member (Deed t T slots) js j w.deeds m
 
-        by_call : (x : ℕ) → Stands T x (c + 1) → (lt : T.place x < 36) → clobbered_by t o (T.place x) ≡ true
+        by_call : (x : ℕ) → Stands T x (c + 1) → (lt : T.place x < FIRST_SLOT) → clobbered_by t o (T.place x) ≡ true
             → get_or (settled t o s.replies s (instrs js)).regs (T.place x) 0 ≡ as_held (T.kind x) (T.place x) (val x)
         by_call x st lt q =
             let r = given_by_call t T slots (c + 1) js o x w e q st lt in
@@ -362,13 +365,13 @@ module _ (t : Table) (T : Temps) (val : ℕ → ℕ) (stack : ℕ → ℕ) (base
             f.replied r.1 r.2 x g.gives in
             reg_result t o s.replies s (instrs js) (T.place x) can (long x lt) q z.0 ∙ sym v ∙ sym (z.1 (val x))
 
-        from_before : (x : ℕ) → Stands T x (c + 1) → (lt : T.place x < 36) → clobbered_by t o (T.place x) ≡ false → T.from x < c + 1
+        from_before : (x : ℕ) → Stands T x (c + 1) → (lt : T.place x < FIRST_SLOT) → clobbered_by t o (T.place x) ≡ false → T.from x < c + 1
             → get_or (settled t o s.replies s (instrs js)).regs (T.place x) 0 ≡ as_held (T.kind x) (T.place x) (val x)
         from_before x st lt q old =
             reg_kept t o s.replies s (instrs js) (T.place x) can (long x lt) q (unwritten t T slots c x js h w st (omega arith))
             ∙ sym (held_reg s (T.place x) lt) ∙ k.held x (before x st old)
 
-        from_now : (x : ℕ) → Stands T x (c + 1) → (lt : T.place x < 36) → clobbered_by t o (T.place x) ≡ false → c + 1 ≤ T.from x
+        from_now : (x : ℕ) → Stands T x (c + 1) → (lt : T.place x < FIRST_SLOT) → clobbered_by t o (T.place x) ≡ false → c + 1 ≤ T.from x
             → get_or (settled t o s.replies s (instrs js)).regs (T.place x) 0 ≡ as_held (T.kind x) (T.place x) (val x)
         from_now x st lt q new =
             let b = st.begun in
@@ -385,7 +388,7 @@ module _ (t : Table) (T : Temps) (val : ℕ → ℕ) (stack : ℕ → ℕ) (base
             (each_member (λ (j : Job). j.instr.op ≡ Load → (y : ℕ) → j.gives ≡ Some y → val y ≡ value_of s j.instr) js r.0 f.loaded r.1)
             (deed r.0 r.1) r.2 lt no_call
 
-        in_reg : (x : ℕ) → Stands T x (c + 1) → (lt : T.place x < 36)
+        in_reg : (x : ℕ) → Stands T x (c + 1) → (lt : T.place x < FIRST_SLOT)
             → get_or (settled t o s.replies s (instrs js)).regs (T.place x) 0 ≡ as_held (T.kind x) (T.place x) (val x)
         in_reg x st lt = elim (clobbered_by t o (T.place x)) as (λ b. clobbered_by t o (T.place x) ≡ b
             → get_or (settled t o s.replies s (instrs js)).regs (T.place x) 0 ≡ as_held (T.kind x) (T.place x) (val x)) [
@@ -395,29 +398,30 @@ module _ (t : Table) (T : Temps) (val : ℕ → ℕ) (stack : ℕ → ℕ) (base
                   (cases_lt (T.from x) (c + 1))
             ] refl
 
-        slot_before : (x : ℕ) → Stands T x (c + 1) → (le : 36 ≤ T.place x) → T.from x < c + 1
-            → get_or (settled t o s.replies s (instrs js)).frame (T.place x - 36) 0 ≡ as_held (T.kind x) (T.place x) (val x)
+        slot_before : (x : ℕ) → Stands T x (c + 1) → (le : FIRST_SLOT ≤ T.place x) → T.from x < c + 1
+            → get_or (settled t o s.replies s (instrs js)).frame (T.place x - FIRST_SLOT) 0 ≡ as_held (T.kind x) (T.place x) (val x)
         slot_before x st le old =
-            ap (λ xs. get_or xs (T.place x - 36) 0) frames
-            ∙ puts_other (slot s) (λ i. operand_in s i 0) (instrs js) s.frame (T.place x - 36) (slot_unwritten x st (omega arith) le)
+            ap (λ xs. get_or xs (T.place x - FIRST_SLOT) 0) frames
+            ∙ puts_other (slot s) (λ i. operand_in s i 0) (instrs js) s.frame (T.place x - FIRST_SLOT)
+                (slot_unwritten x st (omega arith) le)
             ∙ sym (held_slot s (T.place x) le) ∙ k.held x (before x st old)
 
-        slot_now : (x : ℕ) → Stands T x (c + 1) → (le : 36 ≤ T.place x) → c + 1 ≤ T.from x
-            → get_or (settled t o s.replies s (instrs js)).frame (T.place x - 36) 0 ≡ as_held (T.kind x) (T.place x) (val x)
+        slot_now : (x : ℕ) → Stands T x (c + 1) → (le : FIRST_SLOT ≤ T.place x) → c + 1 ≤ T.from x
+            → get_or (settled t o s.replies s (instrs js)).frame (T.place x - FIRST_SLOT) 0 ≡ as_held (T.kind x) (T.place x) (val x)
         slot_now x st le new =
             let b = st.begun in
             let a = h.within x st.active in
             let n = k.frame in
-            let small : T.place x - 36 < slots = omega arith in
+            let small : T.place x - FIRST_SLOT < slots = omega arith in
             let r = w.giver x st.active (omega arith) in
             let z = gives_slot s r.0 x h fr k (now_at r.0 r.1) (each_member (Flows val) js r.0 f.flows r.1) (framed_at r.0 r.1)
             (deed r.0 r.1) fit le small r.2 in
-            ap (λ xs. get_or xs (T.place x - 36) 0) frames
-            ∙ puts_own (slot s) (λ i. operand_in s i 0) (instrs js) s.frame r.0.instr (T.place x - 36) apart_slots
+            ap (λ xs. get_or xs (T.place x - FIRST_SLOT) 0) frames
+            ∙ puts_own (slot s) (λ i. operand_in s i 0) (instrs js) s.frame r.0.instr (T.place x - FIRST_SLOT) apart_slots
             (member_map (λ (j : Job). j.instr) js r.0 r.1) z.0 (omega arith) ∙ z.1
 
-        in_slot : (x : ℕ) → Stands T x (c + 1) → (le : 36 ≤ T.place x)
-            → get_or (settled t o s.replies s (instrs js)).frame (T.place x - 36) 0 ≡ as_held (T.kind x) (T.place x) (val x)
+        in_slot : (x : ℕ) → Stands T x (c + 1) → (le : FIRST_SLOT ≤ T.place x)
+            → get_or (settled t o s.replies s (instrs js)).frame (T.place x - FIRST_SLOT) 0 ≡ as_held (T.kind x) (T.place x) (val x)
         in_slot x st le = ⊎_elim (λ (old : T.from x < c + 1). slot_before x st le old) (λ (new : c + 1 ≤ T.from x). slot_now x st le new)
             (cases_lt (T.from x) (c + 1))
 

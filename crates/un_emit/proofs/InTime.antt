@@ -9,7 +9,7 @@ use Rattle.un_isa.specs.declared.op.Op.{Op}
 use Rattle.un_isa.specs.declared.op.Op.TheVariants.{Call, Enter, Leave}
 use Rattle.un_isa.specs.declared.instr.Instr.{Instr}
 use Rattle.un_isa.specs.declared.table.Table.{Table}
-use Rattle.un_isa.specs.declared.reg.TheConstants.{STACK}
+use Rattle.un_isa.specs.declared.reg.TheConstants.{STACK, REGISTERS, FIRST_SLOT}
 use Rattle.un_packet.specs.Step.{PacketState, issue_cycle, is_call, reads_of}
 use Rattle.un_model.proofs.Lists.{Each, Member, each_member, each_of, each_map, each_more, member_map, member_map_of, found, none_found}
 use Rattle.un_emit.proofs.Packet.{target, moves_stack, issues_next}
@@ -21,8 +21,8 @@ use Rattle.un_emit.proofs.Deeds.{sources, IsSource, each_read, writes, lands, ap
 -- after cycle c of a block that began when the counter was at k
 pub record InTime (T : Temps) (k c : ℕ) (s : PacketState) : Type 0 where
   pub cycle : s.cycle ≡ k + c
-  pub long : length s.ready ≡ 36
-  pub ready : (x : ℕ) → Stands T x c → T.place x < 36 → get_or s.ready (T.place x) 0 ≤ k + (T.from x + T.lat x)
+  pub long : length s.ready ≡ REGISTERS
+  pub ready : (x : ℕ) → Stands T x c → T.place x < FIRST_SLOT → get_or s.ready (T.place x) 0 ≤ k + (T.from x + T.lat x)
   pub stack : get_or s.ready STACK 0 ≤ k + c + 1
 
 -- what is read in the next cycle stands already
@@ -34,7 +34,7 @@ source_ready : (T : Temps) (slots k c : ℕ) (s : PacketState) (r : ℕ) → Are
     → get_or s.ready r 0 ≤ s.cycle + 1
 source_ready T slots k c s r h i q =
     let a = q.1 in let b = a.ready in let e = i.cycle in
-    let small : T.place q.0 < 36 = let lt = q.3 in let same = q.2 in omega arith in
+    let small : T.place q.0 < FIRST_SLOT = let lt = q.3 in let same = q.2 in omega arith in
     let g = i.ready q.0 (stands_before T slots c q.0 h q.1) small in
     let g' : get_or s.ready r 0 ≤ k + (T.from q.0 + T.lat q.0) = subst (λ p. get_or s.ready p 0 ≤ k + (T.from q.0 + T.lat q.0)) q.2 g in
     omega arith
@@ -70,7 +70,7 @@ call_job js call e =
 
 -- a clobbered temporary that stands in a packet's cycle is what the packet's call gives
 pub given_by_call : (t : Table) (T : Temps) (slots c : ℕ) (js : List Job) (o : Option Instr) (x : ℕ) → Together t T slots c js
-    → the_call (instrs js) ≡ o → clobbered_by t o (T.place x) ≡ true → Stands T x c → T.place x < 36
+    → the_call (instrs js) ≡ o → clobbered_by t o (T.place x) ≡ true → Stands T x c → T.place x < FIRST_SLOT
     → (j : Job) × (Member j js) × (j.instr.op ≡ Call) × (Gives t T j x)
 given_by_call t T slots c js None x w e k s lt = absurd (cc k)
 given_by_call t T slots c js (Some call) x w e k s lt =
@@ -104,7 +104,7 @@ never_clobbered t (Some call) r h = h
 
 -- a register that the packet's own instruction gives is not clobbered, or a call gives it
 pub lands_written : (t : Table) (T : Temps) (slots c : ℕ) (js : List Job) (o : Option Instr) (j : Job) (x : ℕ) → CallsFit t
-    → Together t T slots c js → the_call (instrs js) ≡ o → Member j js → j.gives ≡ Some x → T.place x < 36
+    → Together t T slots c js → the_call (instrs js) ≡ o → Member j js → j.gives ≡ Some x → T.place x < FIRST_SLOT
     → clobbered_by t o (T.place x) ≡ false → target j.instr ≡ Some (T.place x)
 lands_written t T slots c js o j x fit w e m g lt k =
     ⊎_elim (λ (p : target j.instr ≡ Some (T.place x)). p)
@@ -156,7 +156,7 @@ in_time_next t T slots k c js o s fit calls h w e can i = record {
     later : s.cycle + 1 ≡ k + (c + 1)
     later = let a = i.cycle in omega arith
 
-    long : (x : ℕ) → T.place x < 36 → T.place x < length s.ready
+    long : (x : ℕ) → T.place x < FIRST_SLOT → T.place x < length s.ready
     long x lt = let a = i.long in omega arith
 
     free : clobbered_by t o STACK ≡ false
@@ -180,7 +180,7 @@ in_time_next t T slots k c js o s fit calls h w e can i = record {
         let n = now in let m = later in
         omega arith
 
-    by_call : (x : ℕ) → Stands T x (c + 1) → T.place x < 36 → clobbered_by t o (T.place x) ≡ true
+    by_call : (x : ℕ) → Stands T x (c + 1) → T.place x < FIRST_SLOT → clobbered_by t o (T.place x) ≡ true
         → get_or (settled t o s.replies s is).ready (T.place x) 0 ≤ k + (T.from x + T.lat x)
     by_call x st lt q =
         let r = given_by_call t T slots (c + 1) js o x w e q st lt in
@@ -191,7 +191,7 @@ in_time_next t T slots k c js o s fit calls h w e can i = record {
         let n = now in let m = later in
         omega arith
 
-    from_before : (x : ℕ) → Stands T x (c + 1) → T.place x < 36 → clobbered_by t o (T.place x) ≡ false → T.from x < c + 1
+    from_before : (x : ℕ) → Stands T x (c + 1) → T.place x < FIRST_SLOT → clobbered_by t o (T.place x) ≡ false → T.from x < c + 1
         → get_or (settled t o s.replies s is).ready (T.place x) 0 ≤ k + (T.from x + T.lat x)
     from_before x st lt q old =
         let b = st.held in
@@ -200,7 +200,7 @@ in_time_next t T slots k c js o s fit calls h w e can i = record {
         let y = i.ready x before lt in
         omega arith
 
-    from_now : (x : ℕ) → Stands T x (c + 1) → T.place x < 36 → clobbered_by t o (T.place x) ≡ false → c + 1 ≤ T.from x
+    from_now : (x : ℕ) → Stands T x (c + 1) → T.place x < FIRST_SLOT → clobbered_by t o (T.place x) ≡ false → c + 1 ≤ T.from x
         → get_or (settled t o s.replies s is).ready (T.place x) 0 ≤ k + (T.from x + T.lat x)
     from_now x st lt q new =
         let b = st.begun in

@@ -16,6 +16,7 @@ use Rattle.un_isa.specs.declared.op.Op.{Op}
 use Rattle.un_isa.specs.declared.op.Op.TheVariants.{Imm, Mov, Add, Sub, And, Or, Xor, Addi, Andi, Ori, Mux, CmpEq, CmpGt, CmpGtu, CmpEqi}
 use Rattle.un_isa.specs.declared.op.Op.TheVariants.{CmpGti, Mpyi, Asl, Asr, Lsr, Load, Store, Call, Jump as JumpOp, JumpIf, JumpIfNot}
 use Rattle.un_isa.specs.declared.op.Op.TheVariants.{Jumpr, Spill, Reload, P2R, R2P, Enter as EnterOp, Leave as LeaveOp, Nop}
+use Rattle.un_isa.specs.declared.reg.TheConstants.{GENERALS, FIRST_SLOT}
 use Rattle.un_isa.specs.declared.reg.Reg.{Reg}
 use Rattle.un_isa.specs.declared.reg.Space.{Space}
 use Rattle.un_isa.specs.declared.reg.Space.TheVariants.{R, P, M}
@@ -61,35 +62,38 @@ use Rattle.un_emit.proofs.Jobs.{given_temp, job_with}
 
 -- ---- spaces
 
-pub in_general : (r : ℕ) → space_of r ≡ R → r < 32
-in_general r h = ⊎_elim (λ (lt : r < 32). lt) (λ (le : 32 ≤ r). absurd (out r le h)) (cases_lt r 32)
+pub in_general : (r : ℕ) → space_of r ≡ R → r < GENERALS
+in_general r h = ⊎_elim (λ (lt : r < GENERALS). lt) (λ (le : GENERALS ≤ r). absurd (out r le h)) (cases_lt r GENERALS)
   where
-    out : (r : ℕ) → 32 ≤ r → space_of r ≡ R → ⊥
+    out : (r : ℕ) → GENERALS ≤ r → space_of r ≡ R → ⊥
     out r le h =
-        let a : nat_lt r 32 ≡ false = grind (arith, nat_tests) in
-        let k : (if nat_lt r 36 then P else M) ≡ R = sym (ap (λ (b : Bool). if b then R else if nat_lt r 36 then P else M) a) ∙ h in
-        other (nat_lt r 36) k
+        let a : nat_lt r GENERALS ≡ false = grind (arith, nat_tests) in
+        let k : (if nat_lt r FIRST_SLOT then P else M) ≡ R =
+            sym (ap (λ (b : Bool). if b then R else if nat_lt r FIRST_SLOT then P else M) a) ∙ h in
+        other (nat_lt r FIRST_SLOT) k
       where
         other : (b : Bool) → (if b then P else M) ≡ R → ⊥
         other true e = absurd (cc e)
         other false e = absurd (cc e)
 
-pub in_predicates : (r : ℕ) → space_of r ≡ P → (32 ≤ r) × (r < 36)
+pub in_predicates : (r : ℕ) → space_of r ≡ P → (GENERALS ≤ r) × (r < FIRST_SLOT)
 in_predicates r h = ⊎_elim
-    (λ (lt : r < 32). let a : nat_lt r 32 ≡ true = grind (arith, nat_tests) in let k : R ≡ P =
-    sym (ap (λ (b : Bool). if b then R else if nat_lt r 36 then P else M) a) ∙ h in absurd (cc k))
-    (λ (le : 32 ≤ r). ⊎_elim (λ (lt : r < 36). (le, lt)) (λ (ge : 36 ≤ r).
-    let a : nat_lt r 32 ≡ false = grind (arith, nat_tests) in
-    let b : nat_lt r 36 ≡ false = grind (arith, nat_tests) in
-    let k : M ≡ P = sym (ap (λ (b : Bool). if b then R else if nat_lt r 36 then P else M) a ∙ ap (λ (b : Bool). if b then P else M) b)
-    ∙ h in absurd (cc k)) (cases_lt r 36))
-    (cases_lt r 32)
+    (λ (lt : r < GENERALS). let a : nat_lt r GENERALS ≡ true = grind (arith, nat_tests) in let k : R ≡ P =
+    sym (ap (λ (b : Bool). if b then R else if nat_lt r FIRST_SLOT then P else M) a) ∙ h in absurd (cc k))
+    (λ (le : GENERALS ≤ r). ⊎_elim (λ (lt : r < FIRST_SLOT). (le, lt)) (λ (ge : FIRST_SLOT ≤ r).
+    let a : nat_lt r GENERALS ≡ false = grind (arith, nat_tests) in
+    let b : nat_lt r FIRST_SLOT ≡ false = grind (arith, nat_tests) in
+    let k : M ≡ P =
+        sym (ap (λ (b : Bool). if b then R else if nat_lt r FIRST_SLOT then P else M) a
+        ∙ ap (λ (b : Bool). if b then P else M) b) ∙ h in
+    absurd (cc k)) (cases_lt r FIRST_SLOT))
+    (cases_lt r GENERALS)
 
-pub in_frame : (r : ℕ) → space_of r ≡ M → 36 ≤ r
+pub in_frame : (r : ℕ) → space_of r ≡ M → FIRST_SLOT ≤ r
 in_frame r h = ⊎_elim
-    (λ (lt : r < 36). absurd (out (nat_lt r 32) (let b : nat_lt r 36 ≡ true = grind (arith, nat_tests) in
-    sym (ap (λ (b : Bool). if nat_lt r 32 then R else if b then P else M) b) ∙ h)))
-    (λ (ge : 36 ≤ r). ge) (cases_lt r 36)
+    (λ (lt : r < FIRST_SLOT). absurd (out (nat_lt r GENERALS) (let b : nat_lt r FIRST_SLOT ≡ true = grind (arith, nat_tests) in
+    sym (ap (λ (b : Bool). if nat_lt r GENERALS then R else if b then P else M) b) ∙ h)))
+    (λ (ge : FIRST_SLOT ≤ r). ge) (cases_lt r FIRST_SLOT)
   where
     out : (b : Bool) → (if b then R else P) ≡ M → ⊥
     out true e = absurd (cc e)
@@ -100,7 +104,7 @@ space_for General = R
 space_for Pred = P
 
 -- a value in the space of its kind stands as itself
-pub plain_in : (T : Temps) (x : ℕ) (k : Kind) → T.kind x ≡ k → space_of (T.place x) ≡ space_for k → (T.place x < 36) × IsPlain T x
+pub plain_in : (T : Temps) (x : ℕ) (k : Kind) → T.kind x ≡ k → space_of (T.place x) ≡ space_for k → (T.place x < FIRST_SLOT) × IsPlain T x
 plain_in T x General e s = let lt = in_general (T.place x) s in (omega arith, λ v. ap (λ (k : Kind). as_held k (T.place x) v) e)
 plain_in T x Pred e s = let r = in_predicates (T.place x) s in (
   r.1,
@@ -275,7 +279,7 @@ module _ (e : Ext) (o : Options) (values : List ℕ) (h : Solved e o values) whe
     -- all operands, where each is of a kind and in its space
     abbrev pub Fitting : Type 0
     Fitting = (j : ℕ) (x : Operand) → slice_get p.op.operands j ≡ Some x → (want : Want) × Reading e o values h p j x want
-        × ((let T = temps_of p.block in T.place (temp_of j x) < 36) × IsPlain (temps_of p.block) (temp_of j x))
+        × ((let T = temps_of p.block in T.place (temp_of j x) < FIRST_SLOT) × IsPlain (temps_of p.block) (temp_of j x))
 
     pub reads_all : (i : Instr) → i.srcs ≡ operand_registers (model_of e o) values p.op (vars_of p) → Fitting
         → ReadsAll (temps_of p.block) (job_with values p i)
@@ -287,8 +291,9 @@ module _ (e : Ext) (o : Options) (values : List ℕ) (h : Solved e o values) whe
               at (0 + j) j x (omega arith) (operand_facts j x r.0 r.1));
           read = each_temp (λ n. IsReadAt (temps_of p.block) n (issue_at values p).cycle) p.op.operands 0
               (λ j x q. let r = f j x q in let g = at (0 + j) j x (omega arith) (operand_facts j x r.0 r.1) in g.read);
-          regs = each_temp (λ n. let T = temps_of p.block in T.place n < 36) p.op.operands 0
-              (λ j x q. let r = f j x q in subst (λ n. let T = temps_of p.block in T.place (temp_of n x) < 36) (omega arith) (r.2.0));
+          regs = each_temp (λ n. let T = temps_of p.block in T.place n < FIRST_SLOT) p.op.operands 0
+              (λ j x q. let r = f j x q in
+              subst (λ n. let T = temps_of p.block in T.place (temp_of n x) < FIRST_SLOT) (omega arith) (r.2.0));
           plain = each_temp (λ n. IsPlain (temps_of p.block) n) p.op.operands 0
               (λ j x q. let r = f j x q in subst (λ n. IsPlain (temps_of p.block) (temp_of n x)) (omega arith) (r.2.1));
         }
@@ -414,13 +419,13 @@ module _ (e : Ext) (o : Options) (values : List ℕ) (h : Solved e o values) whe
     has_result _ (Some n) r s c = refl
 
     gives_reg : (y : TempId) (so : SrcOp) (s : Space) → p.op.results ≡ y ∷ [] → (issue_at values p).active ≡ true
-        → (issue_at values p).instr ≡ Some so.op → (let T = temps_of p.block in T.place y.0 < 36)
+        → (issue_at values p).instr ≡ Some so.op → (let T = temps_of p.block in T.place y.0 < FIRST_SLOT)
         → GivesReg e.table (temps_of p.block) (job_with values p (plain_instr so so.op)) y.0
     gives_reg y so s q act ins lt = record { given = gives y (plain_instr so so.op) so.op q act ins refl; dst = result_place y q; reg = lt }
 
     -- what gives a register a value of its kind
     result_plain : (so : SrcOp) (y : TempId) → p.op.kind ≡ Body so → p.op.results ≡ y ∷ [] → (issue_at values p).instr ≡ Some so.op
-        → result_space_in so.op ≡ Some (space_for (result_kind so.op)) → (let T = temps_of p.block in T.place y.0 < 36)
+        → result_space_in so.op ≡ Some (space_for (result_kind so.op)) → (let T = temps_of p.block in T.place y.0 < FIRST_SLOT)
         × IsPlain (temps_of p.block) y.0
     result_plain so y k q ins f = plain_in (temps_of p.block) y.0 (result_kind so.op) (source_kind so y k q)
         (result_space y so.op (space_for (result_kind so.op)) q ins f)
@@ -514,7 +519,7 @@ module _ (e : Ext) (o : Options) (values : List ℕ) (h : Solved e o values) whe
                 }) (in_general _ sp) (in_general _ place_y)
 
             go : (c : Bool) → is_copy so.op ≡ c → is_alu so.op ≡ true → is_source so.op ≡ true → (so.op ≡ Call → ⊥) → (y : TempId)
-                → p.op.results ≡ y ∷ [] → (let T = temps_of p.block in T.place y.0 < 36) → IsPlain (temps_of p.block) y.0
+                → p.op.results ≡ y ∷ [] → (let T = temps_of p.block in T.place y.0 < FIRST_SLOT) → IsPlain (temps_of p.block) y.0
                 → ReadsAll (temps_of p.block) (job_with values p (plain_instr so so.op))
                 → GivesReg e.table (temps_of p.block) (job_with values p (plain_instr so so.op)) y.0
                 → Deed e.table (temps_of p.block) slots (job_with values p (plain_instr so so.op))
@@ -677,7 +682,7 @@ module _ (e : Ext) (o : Options) (values : List ℕ) (h : Solved e o values) whe
     pub deed_copy : (slots : ℕ) (node : NodeCopy) (op : Op) → p.op.kind ≡ Copy node → (issue_at values p).active ≡ true
         → (issue_at values p).instr ≡ Some op → copy_of (value_by values (vars_of p).instr) ≡ Some op
         → (4 ≤ value_by values (vars_of p).instr → (y : TempId) → p.op.results ≡ y ∷ [] → (let T = temps_of p.block in T.kind y.0) ≡ Pred)
-        → ((x : ℕ) → (let T = temps_of p.block in T.active x ≡ true) → (let T = temps_of p.block in T.place x < 36 + slots))
+        → ((x : ℕ) → (let T = temps_of p.block in T.active x ≡ true) → (let T = temps_of p.block in T.place x < FIRST_SLOT + slots))
         → Deed e.table (temps_of p.block) slots (job_with values p (copy_instr op srcs dst))
     deed_copy slots node op k act ins q truth inside = by_op (copy_op (value_by values (vars_of p).instr) op q)
       where
@@ -731,16 +736,16 @@ module _ (e : Ext) (o : Options) (values : List ℕ) (h : Solved e o values) whe
         active_x : (let T = temps_of p.block in T.active x ≡ true)
         active_x = let f = facts in let r = f.read in r.active
 
-        slot_y : 36 ≤ (let T = temps_of p.block in T.place y) → IsInSlot (temps_of p.block) slots
+        slot_y : FIRST_SLOT ≤ (let T = temps_of p.block in T.place y) → IsInSlot (temps_of p.block) slots
             (job_with values p (copy_instr Spill srcs dst)) y
         slot_y le =
             let lt = inside y active_y in
             let r = dst_reg in
             let n : Some (r.0).0 ≡ Some (let T = temps_of p.block in T.place y) = ap (option_map (λ (r : Reg). r.0)) (sym r.1) ∙ one_dst in
             let n' : (r.0).0 ≡ (let T = temps_of p.block in T.place y) = cc n in
-            record { slot = le; within = omega arith; imm = ap slot_offset r.1 ∙ ap (λ z. pos (4 * (z - 36))) n' }
+            record { slot = le; within = omega arith; imm = ap slot_offset r.1 ∙ ap (λ z. pos (4 * (z - FIRST_SLOT))) n' }
 
-        slot_x : 36 ≤ (let T = temps_of p.block in T.place x) → IsInSlot (temps_of p.block) slots
+        slot_x : FIRST_SLOT ≤ (let T = temps_of p.block in T.place x) → IsInSlot (temps_of p.block) slots
             (job_with values p (copy_instr Reload srcs dst)) x
         slot_x le =
             let lt = inside x active_x in
@@ -750,7 +755,7 @@ module _ (e : Ext) (o : Options) (values : List ℕ) (h : Solved e o values) whe
               slot = le;
               within = omega arith;
               imm = ap (λ xs. slot_offset (slice_get (places_from reg_of 0 xs) 0)) d.operands
-                  ∙ ap (λ z. pos (4 * (z - 36))) f.register;
+                  ∙ ap (λ z. pos (4 * (z - FIRST_SLOT))) f.register;
             }
 
         as_op : (q : Op) → op ≡ q → Deed e.table (temps_of p.block) slots (job_with values p (copy_instr q srcs dst))

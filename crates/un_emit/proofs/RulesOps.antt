@@ -12,7 +12,7 @@ use Rattle.un_isa.specs.declared.op.Op.TheVariants.{Mov, Load, Store, Call, Jump
 use Rattle.un_isa.specs.declared.op.Op.TheVariants.{R2P, Enter, Leave}
 use Rattle.un_isa.specs.declared.reg.Reg.{Reg}
 use Rattle.un_isa.specs.declared.reg.Space.{Space}
-use Rattle.un_isa.specs.declared.reg.TheConstants.{STACK}
+use Rattle.un_isa.specs.declared.reg.TheConstants.{STACK, FIRST_SLOT}
 use Rattle.un_isa.specs.declared.table.Table.{Table}
 use Rattle.un_ir.specs.declared.function.SrcOp.{SrcOp}
 use Rattle.un_ir.specs.declared.function.Term.{Term}
@@ -68,8 +68,8 @@ base_of _ srcs h = tt
 pub offset_fits : (frame : ℕ) (place : Option Reg) → IfSome place (λ (r : Reg). IsLow r.0) → HasItsNumber frame Spill (slot_offset place)
 offset_fits frame None h = (record { le = tt }, record { le = tt }, refl)
 offset_fits frame (Some r) h = (
-  record { le = le→leb 0 (4 * (r.0 - 36)) (omega arith) },
-  record { le = le→leb (4 * (r.0 - 36)) 4092 (omega arith) },
+  record { le = le→leb 0 (4 * (r.0 - FIRST_SLOT)) (omega arith) },
+  record { le = le→leb (4 * (r.0 - FIRST_SLOT)) 4092 (omega arith) },
   ap pos (omega arith),
 )
 

@@ -12,7 +12,7 @@ use Rattle.un_isa.specs.declared.instr.Instr.{Instr}
 use Rattle.un_isa.specs.declared.op.Op.{Op}
 use Rattle.un_isa.specs.declared.op.Op.TheVariants.{Call, Enter, Leave}
 use Rattle.un_isa.specs.declared.reg.Reg.{Reg}
-use Rattle.un_isa.specs.declared.reg.TheConstants.{STACK}
+use Rattle.un_isa.specs.declared.reg.TheConstants.{STACK, REGISTERS}
 use Rattle.un_isa.specs.declared.table.Table.{Table}
 use Rattle.un_packet.specs.CodeRules.{number, written, written_by}
 use Rattle.un_emit.proofs.Deeds.{writes, apart_targets}
@@ -30,23 +30,23 @@ abbrev is_free : ℕ → Bool
 is_free r = not (may_be_saved r) && not (nat_eq r STACK)
 
 abbrev is_taken : ℕ → Bool
-is_taken r = nat_lt r 36 && (is_clobbered r && is_free r)
+is_taken r = nat_lt r REGISTERS && (is_clobbered r && is_free r)
 
 all_taken : Each (λ r. is_taken r ≡ true) call_list
 all_taken = each_pass is_taken call_list refl
 
 -- a register that every call clobbers
 record Taken (t : Table) (r : ℕ) : Type 0 where
-  pub below : r < 36
+  pub below : r < REGISTERS
   pub clobbered : in_mask t.clobbered r ≡ true
   pub not_stack : r ≢ STACK
 
 taken : (t : Table) → IsFit t → (r : ℕ) → Member r call_list → Taken t r
 taken t fit r m =
-    let a = and_parts (nat_lt r 36) (is_clobbered r && is_free r) (each_member (λ r. is_taken r ≡ true) call_list r all_taken m) in
+    let a = and_parts (nat_lt r REGISTERS) (is_clobbered r && is_free r) (each_member (λ r. is_taken r ≡ true) call_list r all_taken m) in
     let b = and_parts (is_clobbered r) (is_free r) a.1 in
     let c = and_parts (not (may_be_saved r)) (not (nat_eq r STACK)) b.1 in
-    let lt = ltb-true r 36 a.0 in
+    let lt = ltb-true r REGISTERS a.0 in
     let kept : (b : Bool) → in_mask t.saved r ≡ b → not (in_mask t.saved r) ≡ true = elim [
       | true ↦ λ q. let z : true ≡ false = sym (fit.saved r lt q) ∙ not-true (may_be_saved r) c.0 in absurd (cc z)
       | false ↦ λ q. ap not q

@@ -19,7 +19,7 @@ use Rattle.un_isa.specs.Registers.{callee_saved}
 use Rattle.un_isa.specs.declared.op.Op.{Op}
 use Rattle.un_isa.specs.declared.op.Op.TheVariants.{Call, Jump as JumpOp, JumpIf, JumpIfNot, Jumpr}
 use Rattle.un_isa.specs.declared.outcome.CallRecord.{CallRecord}
-use Rattle.un_isa.specs.declared.reg.TheConstants.{STACK}
+use Rattle.un_isa.specs.declared.reg.TheConstants.{STACK, REGISTERS}
 use Rattle.un_ir.specs.Live.{targets_of}
 use Rattle.un_ir.specs.declared.function.Term.{Term}
 use Rattle.un_ir.specs.declared.function.Term.TheVariants.{Fall, Jump, Branch, Ret}
@@ -346,7 +346,7 @@ module _ (e : Ext) (o : Options) (values : List ℕ) (h : Solved e o values) whe
             length-mapped (value_of (let q = after in q.values)) (out_operands block.ops) ∙ ap length oo.operands ∙ out_length
 
         -- a register in which a word is wanted at the end has it
-        word_there : (i reg : ℕ) → slice_get wants i ≡ Some (word_in reg) → reg < 36 → slice_index u.regs reg ≡ slice_index over i
+        word_there : (i reg : ℕ) → slice_get wants i ≡ Some (word_in reg) → reg < REGISTERS → slice_index u.regs reg ≡ slice_index over i
         word_there i reg q lt =
             let n = length_get wants i (word_in reg) q in
             let l = out_length in

@@ -11,7 +11,7 @@ use Rattle.un_isa.specs.Fit.{IsFit}
 use Rattle.un_isa.specs.Tables.{in_mask}
 use Rattle.un_isa.specs.Registers.{saved_registers, callee_saved}
 use Rattle.un_isa.specs.declared.reg.Reg.{Reg}
-use Rattle.un_isa.specs.declared.reg.TheConstants.{STACK, LINK}
+use Rattle.un_isa.specs.declared.reg.TheConstants.{STACK, LINK, GENERALS, REGISTERS, FIRST_SLOT}
 use Rattle.un_isa.specs.declared.start.Start.{Start}
 use Rattle.un_isa.specs.declared.table.Table.{Table}
 use Rattle.un_ir.specs.declared.function.Kind.{Kind}
@@ -86,14 +86,14 @@ range_below a zero r m = elim m [ ]
 range_below a (suc n) r (inl e) = omega arith
 range_below a (suc n) r (inr m) = let z = range_below (a + 1) n r m in omega arith
 
-callee_small : (t : Table) (r : ℕ) → Member r (callee_saved t) → r < 32
+callee_small : (t : Table) (r : ℕ) → Member r (callee_saved t) → r < GENERALS
 unfolding callee_saved
-callee_small t r m = range_below 0 32 r (member_of_filter (in_mask t.saved) (range_with_len 0 32) r m).0
+callee_small t r m = range_below 0 GENERALS r (member_of_filter (in_mask t.saved) (range_with_len 0 GENERALS) r m).0
 
-saved_small : (t : Table) (r : ℕ) → Member r (saved_registers t) → r < 36
+saved_small : (t : Table) (r : ℕ) → Member r (saved_registers t) → r < FIRST_SLOT
 saved_small t r m = go (callee_saved t) (λ q n. callee_small t q n) m
   where
-    go : (xs : List ℕ) → ((q : ℕ) → Member q xs → q < 32) → Member r (xs ++ LINK ∷ []) → r < 36
+    go : (xs : List ℕ) → ((q : ℕ) → Member q xs → q < GENERALS) → Member r (xs ++ LINK ∷ []) → r < FIRST_SLOT
     go [] f (inl e) = omega arith
     go [] f (inr m) = elim m [ ]
     go (x ∷ xs) f (inl e) = let z = f r (inl e) in omega arith
@@ -107,7 +107,7 @@ module _ (e : Ext) (o : Options) (values : List ℕ) (h : Solved e o values) (en
   -- a value at the start: its register, and what that has
   record Begins (j : ℕ) (x : TempId) : Type 0 where
     place : ℕ
-    small : place < 36
+    small : place < FIRST_SLOT
     register : (range_at e o values x.0).reg ≡ place
     value : slice_index (first_values e.table entry.live_in s) j ≡ slice_index s.regs place
     kind : kind_at e o values (numbered e o values h) (fit_kinds e o values h) x.0 ≡ General
@@ -226,7 +226,7 @@ module _ (e : Ext) (o : Options) (values : List ℕ) (h : Solved e o values) (en
       (first_state (frame_of (model_of e o) values) s)
   at_first = record {
     regs_long = can.regs_len;
-    ready_long = length-repeat 36 0;
+    ready_long = length-repeat REGISTERS 0;
     frame_long = length-repeat (frame_of (model_of e o) values / 4) 0;
     frame_start = refl;
     world = refl;
@@ -241,8 +241,8 @@ module _ (e : Ext) (o : Options) (values : List ℕ) (h : Solved e o values) (en
         let st = first_state (frame_of (model_of e o) values) s in
         ap (held_at st) b.register ∙ held_reg st b.place b.small ∙ sym b.value
         ∙ ap (λ (k : Kind). as_held k n (slice_index (first_values e.table entry.live_in s) j)) (sym b.kind);
-    ready = λ j x q lt. let z = get_zeros 36 (range_at e o values x.0).reg in omega (arith, z);
+    ready = λ j x q lt. let z = get_zeros REGISTERS (range_at e o values x.0).reg in omega (arith, z);
     truths = λ j x q k. let b = begins j x q in let z : General ≡ Pred = sym b.kind ∙ k in absurd (cc z);
     stack = sym base_top ∙ sym (stack_first e o values h 0 entry r at base base_room refl);
-    stack_ready = let z = get_zeros 36 29 in omega (arith, z);
+    stack_ready = let z = get_zeros REGISTERS 29 in omega (arith, z);
   }

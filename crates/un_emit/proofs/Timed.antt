@@ -14,7 +14,7 @@ use Rattle.un_isa.specs.declared.instr.Instr.{Instr}
 use Rattle.un_isa.specs.declared.table.Table.{Table}
 use Rattle.un_ir.specs.declared.function.Kind.{Kind}
 use Rattle.un_ir.specs.declared.function.Kind.TheVariants.{Pred}
-use Rattle.un_isa.specs.declared.reg.TheConstants.{STACK}
+use Rattle.un_isa.specs.declared.reg.TheConstants.{STACK, GENERALS, FIRST_SLOT}
 use Rattle.un_simulation.specs.Simulation.{as_held}
 use Rattle.un_model.proofs.Lists.{Each, Pairwise, Member, each_member, each_filter, each_passes, each_more, pairwise_filter, member_filter}
 use Rattle.un_emit.proofs.Packet.{moves_stack}
@@ -75,7 +75,7 @@ is_transfer _ = false
 pub record ReadsAll (T : Temps) (j : Job) : Type 0 where
   pub srcs : numbers j.instr.srcs ≡ map T.place j.reads
   pub read : Each (λ x. IsReadAt T x j.cycle) j.reads
-  pub regs : Each (λ x. T.place x < 36) j.reads
+  pub regs : Each (λ x. T.place x < FIRST_SLOT) j.reads
   pub plain : Each (λ x. IsPlain T x) j.reads
 
 pub record Gives (t : Table) (T : Temps) (j : Job) (x : ℕ) : Type 0 where
@@ -88,7 +88,7 @@ pub record Gives (t : Table) (T : Temps) (j : Job) (x : ℕ) : Type 0 where
 pub record GivesReg (t : Table) (T : Temps) (j : Job) (x : ℕ) : Type 0 where
   pub given : Gives t T j x
   pub dst : option_map (λ (r : Reg). r.0) j.instr.dst ≡ Some (T.place x)
-  pub reg : T.place x < 36
+  pub reg : T.place x < FIRST_SLOT
 
 -- a copy of temporary x to y
 pub record Copies (t : Table) (T : Temps) (j : Job) (x y : ℕ) : Type 0 where
@@ -105,9 +105,9 @@ pub record CopiesRegs (t : Table) (T : Temps) (j : Job) (x y : ℕ) : Type 0 whe
 
 -- x stands in slot i, which is the frame word that the instruction names
 pub record IsInSlot (T : Temps) (slots : ℕ) (j : Job) (x : ℕ) : Type 0 where
-  pub slot : 36 ≤ T.place x
-  pub within : T.place x - 36 < slots
-  pub imm : j.instr.imm ≡ pos (4 * (T.place x - 36))
+  pub slot : FIRST_SLOT ≤ T.place x
+  pub within : T.place x - FIRST_SLOT < slots
+  pub imm : j.instr.imm ≡ pos (4 * (T.place x - FIRST_SLOT))
 
 -- what a call gives, if anything, is in the register of results
 abbrev pub GivesResult : Table → Temps → Job → Type 0
@@ -117,15 +117,15 @@ GivesResult t T j = (j.gives ≡ None) ⊎ ((x : ℕ) × (Gives t T j x) × (T.p
 pub data Deed (t : Table) (T : Temps) (slots : ℕ) (j : Job) : Type 0 where
   computes : (x : ℕ) → is_alu j.instr.op ≡ true → is_copy j.instr.op ≡ false → ReadsAll T j → GivesReg t T j x → IsPlain T x
       → Deed t T slots j
-  moves : (x y : ℕ) → j.instr.op ≡ Mov → CopiesRegs t T j x y → T.place x < 32 → T.place y < 32 → Deed t T slots j
-  spills : (x y : ℕ) → j.instr.op ≡ Spill → Copies t T j x y → numbers j.instr.srcs ≡ T.place x ∷ [] → j.instr.dst ≡ None → T.place x < 32
-      → IsInSlot T slots j y → Deed t T slots j
+  moves : (x y : ℕ) → j.instr.op ≡ Mov → CopiesRegs t T j x y → T.place x < GENERALS → T.place y < GENERALS → Deed t T slots j
+  spills : (x y : ℕ) → j.instr.op ≡ Spill → Copies t T j x y → numbers j.instr.srcs ≡ T.place x ∷ [] → j.instr.dst ≡ None
+      → T.place x < GENERALS → IsInSlot T slots j y → Deed t T slots j
   reloads : (x y : ℕ) → j.instr.op ≡ Reload → Copies t T j x y → j.instr.srcs ≡ []
-      → option_map (λ (r : Reg). r.0) j.instr.dst ≡ Some (T.place y) → IsInSlot T slots j x → T.place y < 32 → Deed t T slots j
-  from_pred : (x y : ℕ) → j.instr.op ≡ P2R → CopiesRegs t T j x y → T.kind x ≡ Pred → 32 ≤ T.place x → T.place x < 36 → T.place y < 32
-      → Deed t T slots j
-  to_pred : (x y : ℕ) → j.instr.op ≡ R2P → CopiesRegs t T j x y → T.kind x ≡ Pred → T.place x < 32 → 32 ≤ T.place y → T.place y < 36
-      → Deed t T slots j
+      → option_map (λ (r : Reg). r.0) j.instr.dst ≡ Some (T.place y) → IsInSlot T slots j x → T.place y < GENERALS → Deed t T slots j
+  from_pred : (x y : ℕ) → j.instr.op ≡ P2R → CopiesRegs t T j x y → T.kind x ≡ Pred → GENERALS ≤ T.place x
+      → T.place x < FIRST_SLOT → T.place y < GENERALS → Deed t T slots j
+  to_pred : (x y : ℕ) → j.instr.op ≡ R2P → CopiesRegs t T j x y → T.kind x ≡ Pred → T.place x < GENERALS
+      → GENERALS ≤ T.place y → T.place y < FIRST_SLOT → Deed t T slots j
   loads : (x : ℕ) → j.instr.op ≡ Load → ReadsAll T j → GivesReg t T j x → IsPlain T x → Deed t T slots j
   stores : j.instr.op ≡ Store → ReadsAll T j → j.gives ≡ None → j.instr.dst ≡ None → Deed t T slots j
   calls : j.instr.op ≡ Call → ReadsAll T j → j.instr.dst ≡ None → GivesResult t T j → Deed t T slots j
@@ -139,7 +139,7 @@ pub record AreTemps (T : Temps) (slots : ℕ) : Type 0 where
   pub spans : (x : ℕ) → T.active x ≡ true → T.from x < T.until x
   pub quick : (x : ℕ) → T.active x ≡ true → 1 ≤ T.lat x
   pub not_stack : (x : ℕ) → T.active x ≡ true → T.place x ≢ STACK
-  pub within : (x : ℕ) → T.active x ≡ true → T.place x < 36 + slots
+  pub within : (x : ℕ) → T.active x ≡ true → T.place x < FIRST_SLOT + slots
 
 -- two jobs of one cycle that cannot be both such
 abbrev pub NotBoth : (Op → Bool) → Job → Job → Type 0
@@ -164,7 +164,7 @@ is_control _ = false
 
 -- no active temporary but the call's own result stands in a clobbered register in a call's cycle
 abbrev pub Clobbers : Table → Temps → Job → Type 0
-Clobbers t T j = j.instr.op ≡ Call → (x : ℕ) → Stands T x j.cycle → T.place x < 36 → in_mask t.clobbered (T.place x) ≡ true
+Clobbers t T j = j.instr.op ≡ Call → (x : ℕ) → Stands T x j.cycle → T.place x < FIRST_SLOT → in_mask t.clobbered (T.place x) ≡ true
     → j.gives ≡ Some x
 
 -- a block whose end is `end`, with its jobs in the order of the block's operations

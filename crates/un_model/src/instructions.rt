@@ -14,8 +14,8 @@ use un_isa::packet_counts::{self, Resource};
 use un_isa::reg::Space;
 use un_isa::table::{self, Needs, Table};
 
-/// The instruction of a terminator.
-fn transfer(term: Term) -> Option<Op>
+/// The instruction of a terminator; None where the block falls through.
+pub fn transfer(term: Term) -> Option<Op>
     ensures { result ≡ transfer_of term }
 {
     match term {
@@ -27,8 +27,8 @@ fn transfer(term: Term) -> Option<Op>
     }
 }
 
-/// The instruction of a copy whose variable of the instruction has this value.
-fn copy(n: u32) -> Option<Op>
+/// The instruction of a copy whose variable of the instruction has this value; None where it is inactive.
+pub fn copy(n: u32) -> Option<Op>
     ensures { result ≡ copy_of n }
 {
     match n {
@@ -113,7 +113,7 @@ pub fn is_transfer(op: Op) -> bool
 }
 
 /// Whether an operation of the source gives a truth value.
-pub(crate) fn gives_truth(op: Op) -> bool
+pub fn gives_truth(op: Op) -> bool
     ensures { result ≡ gives_truth op }
 {
     matches!(result_space(op), Some(Space::P))

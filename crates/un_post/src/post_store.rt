@@ -10,20 +10,6 @@ use un_base::numbers::number;
 use un_domains::domain::Domain;
 use un_domains::store::Store;
 use un_ir::extended::ExtBlock;
-use un_lists::items::Items;
-
-/// The same domain once more.
-fn copy_domain(alloc: Global, domain: &Domain) -> Result<Domain, AllocError>
-    ensures { IfOk result (λ d. d ≡ domain.now) }
-{
-    match domain {
-        Domain::Range { lo, hi } => Ok(Domain::Range { lo: *lo, hi: *hi }),
-        Domain::Set(values) => {
-            let same = values.as_slice().to_vec(alloc)?;
-            Ok(Domain::Set(Items::from_vec(same)))
-        }
-    }
-}
 
 /// The same domains once more.
 fn copy_domains(alloc: Global, domains: &[Domain]) -> Result<Vec<Domain>, AllocError>
@@ -31,7 +17,7 @@ fn copy_domains(alloc: Global, domains: &[Domain]) -> Result<Vec<Domain>, AllocE
 {
     let mut same = Vec::new(alloc);
     for domain in domains {
-        same.push(copy_domain(alloc, domain)?)?;
+        same.push(domain.copy(alloc)?)?;
     }
     Ok(same)
 }
