@@ -18,7 +18,8 @@ has-requires c = has_among c.args.w.now.vars.now c.args.b.now.reg c.args.w.now.s
 pub returns-then-not-y : goal.returns-then-not-y
 returns-then-not-y c = λ gone. lost_by_second c.args.a.now c.args.b.now c.args.w.now.store.now.sets c.args.w.now.vars.now c.requires.of_a
     c.requires.of_b c.requires.known c.requires.live c.args.x c.args.y c.requires.first c.requires.second
-    (sym c.may_clash.ensures ∙ c.if-not-may_clash.false) (denied c.args.y.one c.if-not-y.true) (sym c.has.ensures ∙ denied c.has.result gone)
+    (sym c.may_clash.ensures ∙ c.if-not-may_clash.false) (denied c.args.y.one c.if-not-y.true)
+    (sym c.has.ensures ∙ denied c.has.result gone)
 
 pub has-requires-then-not-x : goal.has-requires-then-not-x
 has-requires-then-not-x c = has_among c.args.w.now.vars.now c.args.a.now.reg c.args.w.now.store.now.sets c.requires.of_a.of_reg

@@ -20,7 +20,8 @@ loop-i-preserved c = λ k low lt. (
       first = lt_i;
       second = lt_j;
       is = λ x y. ap (λ (e : Left). left_both e (get_or xs j y)) (get_or_default xs i x none lt_i)
-          ∙ (ap (λ (e : Left). left_both (get_or xs i none) e) (get_or_default xs j y none lt_j) ∙ (sym c.left_both.ensures ∙ c.in-More.is));
+          ∙ (ap (λ (e : Left). left_both (get_or xs i none) e) (get_or_default xs j y none lt_j)
+          ∙ (sym c.left_both.ensures ∙ c.in-More.is));
     } in
     elim (cases_lt k i) [
       | inl before ↦ c.loop-i.invariant k low before

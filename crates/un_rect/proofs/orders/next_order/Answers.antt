@@ -18,7 +18,8 @@ loop-i-preserved c = λ k low lt. (
       first = lt_i;
       second = lt_j;
       none = λ x y. ap (λ (e : Extent). may_order e (get_or xs j y)) (get_or_default xs i x unsure_extent lt_i)
-          ∙ (ap (λ (e : Extent). may_order (get_or xs i unsure_extent) e) (get_or_default xs j y unsure_extent lt_j) ∙ (sym c.may_order.ensures ∙ c.if-may_order.false));
+          ∙ (ap (λ (e : Extent). may_order (get_or xs i unsure_extent) e) (get_or_default xs j y unsure_extent lt_j)
+          ∙ (sym c.may_order.ensures ∙ c.if-may_order.false));
     } in
     elim (cases_lt k i) [
       | inl before ↦ c.loop-i.invariant k low before
