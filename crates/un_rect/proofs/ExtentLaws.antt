@@ -157,6 +157,17 @@ module _ (a b : Temp) (s : Sets) (vs : List VarId) (ha : TempVars vs a) (hb : Te
       first)
       ∙ cut_all (clash_test b a s) a.reg.0 s (has_among vs a.reg s ha.of_reg k) full then'
 
+  pub many_pass : nat_eq (length (set_at s a.reg.0)) 1 ≡ false → nat_eq (length (set_at s b.reg.0)) 1 ≡ false → clash_pair a b s ≡ Some s
+  many_pass more other = both_stay (λ y there. clash_many a b s y more) (λ y there. clash_many b a s y other)
+
+  pub lost_pass : (r : ℕ) → r ≡ least (set_at s a.reg.0) → nat_eq (length (set_at s b.reg.0)) 1 ≡ false → has (set_at s b.reg.0) r ≡ false
+      → clash_pair a b s ≡ Some s
+  lost_pass r is many gone = both_stay (λ y there. clash_lost a b s r y is gone there) (λ y there. clash_many b a s y many)
+
+  pub lost_back : (r : ℕ) → r ≡ least (set_at s b.reg.0) → nat_eq (length (set_at s a.reg.0)) 1 ≡ false → has (set_at s a.reg.0) r ≡ false
+      → clash_pair a b s ≡ Some s
+  lost_back r is many gone = both_stay (λ y there. clash_many a b s y many) (λ y there. clash_lost b a s r y is gone there)
+
   module _ (x y : Extent) (is_x : x ≡ extent_of a s) (is_y : y ≡ extent_of b s) (may : may_clash x y ≡ true) where
     sure_ones : (p q : Bool) → sure a.on s ≡ p → sure b.on s ≡ q → (x ≡ sure_extent a s) × (y ≡ sure_extent b s)
     sure_ones false q ep eq =
@@ -173,14 +184,12 @@ module _ (a b : Temp) (s : Sets) (vs : List VarId) (ha : TempVars vs a) (hb : Te
     pub lost_by_second : y.one ≡ false → has (set_at s b.reg.0) x.reg ≡ false → clash_pair a b s ≡ Some s
     lost_by_second many gone =
         let are = sure_ones (sure a.on s) (sure b.on s) refl refl in
-        both_stay (λ z there. clash_lost a b s x.reg z (ap (λ (e : Extent). e.reg) are.0) gone there)
-        (λ z there. clash_many b a s z (sym (ap (λ (e : Extent). e.one) are.1) ∙ many))
+        lost_pass x.reg (ap (λ (e : Extent). e.reg) are.0) (sym (ap (λ (e : Extent). e.one) are.1) ∙ many) gone
 
     pub lost_by_first : x.one ≡ false → has (set_at s a.reg.0) y.reg ≡ false → clash_pair a b s ≡ Some s
     lost_by_first many gone =
         let are = sure_ones (sure a.on s) (sure b.on s) refl refl in
-        both_stay (λ z there. clash_many a b s z (sym (ap (λ (e : Extent). e.one) are.0) ∙ many))
-        (λ z there. clash_lost b a s y.reg z (ap (λ (e : Extent). e.reg) are.1) gone there)
+        lost_back y.reg (ap (λ (e : Extent). e.reg) are.1) (sym (ap (λ (e : Extent). e.one) are.0) ∙ many) gone
 
 -- neither may be cut where it comes first
 

@@ -1,7 +1,7 @@
 //! Registers that a sure temporary takes from those that it surely overlaps.
 
-ghost use Rattle.std.specs.Prelude.{◌≡◌, ◌≢◌, ◌<◌, ◌≤◌, ℕ, All, length, nat_lt, slice_index_or, true, Some};
-ghost use Rattle.un_domains.specs.Sets.{NoneEmpty};
+ghost use Rattle.std.specs.Prelude.{◌≡◌, ◌≢◌, ◌<◌, ◌≤◌, ℕ, All, length, nat_eq, nat_lt, slice_index_or, true, Some};
+ghost use Rattle.un_domains.specs.Sets.{NoneEmpty, least, set_at};
 ghost use Rattle.un_prop.specs.Going.{Stepped};
 ghost use Rattle.un_prop.specs.Rounds.{HasVars};
 ghost use Rattle.un_prop.specs.declared.act.Temp.{Temp};
@@ -145,7 +145,80 @@ fn passes(w: &Window<'_>, a: &Temp, b: &Temp, x: Extent, y: Extent) -> bool
 }
 
 /// The first place from `from` on whose temporary may clash with that at place `j`, by what was noted of them; `j` where there is none.
-/// Nothing is known of them any more once something changed.
+fn next_noted(w: &Window<'_>, temps: &[Temp], extents: &[Extent], from: usize, j: usize) -> usize
+    requires there { j < length temps.now }
+    requires order { from ≤ j }
+    requires of_temps { All (TempVars w.now.vars.now) temps.now }
+    requires known { HasVars w.now.vars.now w.now.store.now.sets }
+    requires live { NoneEmpty w.now.store.now.sets }
+    requires are { AreExtents temps.now w.now.store.now.sets extents.now }
+    ensures low { from ≤ result }
+    ensures high { result ≤ j }
+    ensures passed { (i : ℕ) (a b : Temp) → from ≤ i → i < result → clash_pair (slice_index_or temps.now i a) (slice_index_or temps.now j b)
+        w.now.store.now.sets ≡ Some w.now.store.now.sets }
+{
+    if j >= extents.len() {
+        return from;
+    }
+    let b = &temps[j];
+    let y = extents[j];
+    for i in from..j {
+        if !passes(w, &temps[i], b, extents[i], y) {
+            return i;
+        }
+    }
+    j
+}
+
+/// Whether a temporary cannot clash with another of which it is told whether one register is left, and the least one: neither has one
+/// register left, or the other has lost that of one.
+fn misses(w: &Window<'_>, a: &Temp, b: &Temp, one: bool, reg: u32) -> bool
+    requires of_a { TempVars w.now.vars.now a.now }
+    requires of_b { TempVars w.now.vars.now b.now }
+    requires known { HasVars w.now.vars.now w.now.store.now.sets }
+    requires live { NoneEmpty w.now.store.now.sets }
+    requires one { one ≡ nat_eq (length (set_at w.now.store.now.sets b.now.reg.0)) 1 }
+    requires reg { reg ≡ least (set_at w.now.store.now.sets b.now.reg.0) }
+    ensures { result ≡ true → clash_pair a.now b.now w.now.store.now.sets ≡ Some w.now.store.now.sets }
+{
+    let first = w.is_single(a.reg);
+    if one {
+        if first {
+            return false;
+        }
+        return !w.has(a.reg, reg);
+    }
+    if first {
+        return !w.has(b.reg, w.min(a.reg));
+    }
+    true
+}
+
+/// The same place by the registers alone that are left of them.
+fn next_single(w: &Window<'_>, temps: &[Temp], from: usize, j: usize) -> usize
+    requires there { j < length temps.now }
+    requires order { from ≤ j }
+    requires of_temps { All (TempVars w.now.vars.now) temps.now }
+    requires known { HasVars w.now.vars.now w.now.store.now.sets }
+    requires live { NoneEmpty w.now.store.now.sets }
+    ensures low { from ≤ result }
+    ensures high { result ≤ j }
+    ensures passed { (i : ℕ) (a b : Temp) → from ≤ i → i < result → clash_pair (slice_index_or temps.now i a) (slice_index_or temps.now j b)
+        w.now.store.now.sets ≡ Some w.now.store.now.sets }
+{
+    let b = &temps[j];
+    let one = w.is_single(b.reg);
+    let reg = w.min(b.reg);
+    for i in from..j {
+        if !misses(w, &temps[i], b, one, reg) {
+            return i;
+        }
+    }
+    j
+}
+
+/// The first place from `from` on whose temporary may clash with that at place `j`, or `j`. What was noted of them stands until something
+/// changed; from then on the registers that are left are looked at.
 fn next_clash(
     w: &Window<'_>,
     temps: &[Temp],
@@ -165,17 +238,11 @@ fn next_clash(
     ensures passed { (i : ℕ) (a b : Temp) → from ≤ i → i < result → clash_pair (slice_index_or temps.now i a) (slice_index_or temps.now j b)
         w.now.store.now.sets ≡ Some w.now.store.now.sets }
 {
-    if did != Pruned::Same || j >= extents.len() {
-        return from;
+    match did {
+        Pruned::Same => next_noted(w, temps, extents, from, j),
+        Pruned::Tighter => next_single(w, temps, from, j),
+        Pruned::Failed => from,
     }
-    let b = &temps[j];
-    let y = extents[j];
-    for i in from..j {
-        if !passes(w, &temps[i], b, extents[i], y) {
-            return i;
-        }
-    }
-    j
 }
 
 /// Of the temporary at place `j` with each one before it. There is nothing to do where it is not sure.

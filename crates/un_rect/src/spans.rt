@@ -97,7 +97,7 @@ pub(crate) fn is_sure_user(w: &Window<'_>, u: &UserOf) -> bool
     is_sure_choice(w, u.choice, u.value)
 }
 
-/// The largest of the least times of the sure users, or 0. Of most users the choice is open, so their times are not looked at.
+/// The largest of the least times of the sure users, or 0. Times are looked at first, since few are larger than those before.
 pub(crate) fn last_sure_use(w: &Window<'_>, users: &[UserOf]) -> u32
     requires vars { All (UserVars w.now.vars.now) users.now }
     requires known { HasVars w.now.vars.now w.now.store.now.sets }
@@ -106,8 +106,11 @@ pub(crate) fn last_sure_use(w: &Window<'_>, users: &[UserOf]) -> u32
 {
     let mut last = 0;
     for u in users {
-        if is_sure_user(w, u) {
-            last = least_time(w, u.at).max(last);
+        let time = least_time(w, u.at);
+        if time > last {
+            if is_sure_user(w, u) {
+                last = time;
+            }
         }
     }
     last

@@ -2,7 +2,7 @@
 use Rattle.std.proofs.Common.{ℕ, ◌≡◌, ◌≤◌, ◌<◌, get_or, Some}
 use Rattle.un_prop.specs.declared.act.Temp.{Temp}
 use Rattle.un_rect.specs.Apart.{clash_pair}
-use Rattle.un_rect.proofs.clashes.next_clash.Given as goal
+use Rattle.un_rect.proofs.clashes.next_noted.Given as goal
 
 abbrev pub invariant-loop-i : goal.invariant-loop-i
 invariant-loop-i l = (k : ℕ) (a b : Temp) → l.from ≤ k → k < l.i

@@ -1,7 +1,7 @@
 use Rattle.std.proofs.Common.{◌<◌, length, sym, subst, arith}
 use Rattle.un_prop.specs.declared.act.Temp.{Temp}
 use Rattle.un_rect.specs.Spans.{TempVars}
-use Rattle.un_rect.proofs.clashes.next_clash.Goals as goal
+use Rattle.un_rect.proofs.clashes.next_noted.Goals as goal
 
 pub passes-requires-clause-of_a : goal.passes-requires-clause-of_a
 passes-requires-clause-of_a c =
