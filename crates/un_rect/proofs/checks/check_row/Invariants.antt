@@ -1,5 +1,5 @@
 -- the temporaries before place i
-use Rattle.std.proofs.Common.{ℕ, ◌≡◌, ◌≢◌, ◌≤◌, ◌-◌, All, get_or}
+use Rattle.std.proofs.Common.{◌≡◌, ◌≢◌, ◌≤◌, ◌-◌, All, get_or}
 use Rattle.un_domains.specs.Sets.{set_at, least}
 use Rattle.un_prop.specs.Going.{Stepped}
 use Rattle.un_prop.specs.declared.propagator.Pruned.TheVariants.{Same, Failed}

@@ -1,5 +1,5 @@
 -- the temporaries before place i
-use Rattle.std.proofs.Common.{ℕ, ◌≡◌, ◌≤◌, ◌-◌}
+use Rattle.std.proofs.Common.{◌≡◌, ◌≤◌, ◌-◌}
 use Rattle.un_prop.specs.Going.{Stepped}
 use Rattle.un_prop.specs.declared.propagator.Pruned.TheVariants.{Same}
 use Rattle.un_rect.specs.Orders.{order_pair}
