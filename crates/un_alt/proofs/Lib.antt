@@ -1,3 +1,4 @@
 pub mod Entries
+pub mod Idle
 pub mod Orders
 pub mod Ranges

@@ -101,6 +101,12 @@ fn keep_copies(w: &mut Window<'_>, before: Pruned, p: &Frame) -> Pruned
     ensures same_reference { w.new.store.ghost_name ≡ w.old.store.ghost_name }
     ensures vars { w.new.vars ≡ w.old.vars }
 {
+    if before == Pruned::Failed {
+        return before;
+    }
+    if !is_unused(w, p) {
+        return before;
+    }
     let touch = p.touch.as_slice();
     let mut did = before;
     for v in touch {
@@ -132,6 +138,12 @@ fn keep_values(w: &mut Window<'_>, before: Pruned, p: &Frame) -> Pruned
     ensures same_reference { w.new.store.ghost_name ≡ w.old.store.ghost_name }
     ensures vars { w.new.vars ≡ w.old.vars }
 {
+    if before == Pruned::Failed {
+        return before;
+    }
+    if !is_unused(w, p) {
+        return before;
+    }
     let ins = p.ins.as_slice();
     let mut did = before;
     for v in ins {
@@ -216,6 +228,12 @@ fn keep_entry(w: &mut Window<'_>, before: Pruned, p: &Frame) -> Pruned
     ensures same_reference { w.new.store.ghost_name ≡ w.old.store.ghost_name }
     ensures vars { w.new.vars ≡ w.old.vars }
 {
+    if before == Pruned::Failed {
+        return before;
+    }
+    if !is_only(w, p.flag, 1) {
+        return before;
+    }
     let entry = p.entry.as_slice();
     let mut did = before;
     for u in entry {
@@ -309,6 +327,12 @@ fn keep_all_left(w: &mut Window<'_>, before: Pruned, p: &Frame) -> Pruned
     ensures same_reference { w.new.store.ghost_name ≡ w.old.store.ghost_name }
     ensures vars { w.new.vars ≡ w.old.vars }
 {
+    if before == Pruned::Failed {
+        return before;
+    }
+    if !is_only(w, p.flag, 1) {
+        return before;
+    }
     let leaves = p.leaves.as_slice();
     let mut did = before;
     for l in leaves {

@@ -20,6 +20,7 @@ use Rattle.un_prop.specs.Rounds.{HasVars}
 use Rattle.un_prop.specs.AmongLaws.{has_among}
 use Rattle.un_prop.specs.LastLaws.{Ascend, cut_all}
 use Rattle.un_rect.proofs.CheckSteps.{check_both}
+use Rattle.un_rect.proofs.ClashLaws.{clash_lost, clash_many}
 use Rattle.un_prop.specs.Looks.{sure}
 use Rattle.un_prop.specs.LookLaws.{firsts}
 use Rattle.un_prop.specs.declared.act.Temp.{Temp}
@@ -147,6 +148,49 @@ module _ (a b : Temp) (s : Sets) (vs : List VarId) (ha : TempVars vs a) (hb : Te
       (keeps_each a b s e))
       ∙ cut_all (clash_test b a s) a.reg.0 s (has_among vs a.reg s ha.of_reg k) full (keeps_each b a s back)
 
+-- one has one register left, and the other has lost it
+
+module _ (a b : Temp) (s : Sets) (vs : List VarId) (ha : TempVars vs a) (hb : TempVars vs b) (k : HasVars vs s) (full : NoneEmpty s) where
+  both_stay : ((y : ℕ) → has (set_at s b.reg.0) y ≡ true → clash_test a b s y ≡ true)
+      → ((y : ℕ) → has (set_at s a.reg.0) y ≡ true → clash_test b a s y ≡ true) → clash_pair a b s ≡ Some s
+  both_stay first then' = ap (option_and_then (clash_cut b a)) (cut_all (clash_test a b s) b.reg.0 s (has_among vs b.reg s hb.of_reg k) full
+      first)
+      ∙ cut_all (clash_test b a s) a.reg.0 s (has_among vs a.reg s ha.of_reg k) full then'
+
+  pub many_pass : nat_eq (length (set_at s a.reg.0)) 1 ≡ false → nat_eq (length (set_at s b.reg.0)) 1 ≡ false → clash_pair a b s ≡ Some s
+  many_pass more other = both_stay (λ y there. clash_many a b s y more) (λ y there. clash_many b a s y other)
+
+  pub lost_pass : (r : ℕ) → r ≡ least (set_at s a.reg.0) → nat_eq (length (set_at s b.reg.0)) 1 ≡ false → has (set_at s b.reg.0) r ≡ false
+      → clash_pair a b s ≡ Some s
+  lost_pass r is many gone = both_stay (λ y there. clash_lost a b s r y is gone there) (λ y there. clash_many b a s y many)
+
+  pub lost_back : (r : ℕ) → r ≡ least (set_at s b.reg.0) → nat_eq (length (set_at s a.reg.0)) 1 ≡ false → has (set_at s a.reg.0) r ≡ false
+      → clash_pair a b s ≡ Some s
+  lost_back r is many gone = both_stay (λ y there. clash_many a b s y many) (λ y there. clash_lost b a s r y is gone there)
+
+  module _ (x y : Extent) (is_x : x ≡ extent_of a s) (is_y : y ≡ extent_of b s) (may : may_clash x y ≡ true) where
+    sure_ones : (p q : Bool) → sure a.on s ≡ p → sure b.on s ≡ q → (x ≡ sure_extent a s) × (y ≡ sure_extent b s)
+    sure_ones false q ep eq =
+        let is : x ≡ unsure_extent = is_x ∙ ap (λ (c : Bool). cond c (sure_extent a s) unsure_extent) ep in
+        absurd (let no = none_first a b s x y (ap (λ (e : Extent). e.end) is) in cc (sym may ∙ no))
+    sure_ones true false ep eq =
+        let is : y ≡ unsure_extent = is_y ∙ ap (λ (c : Bool). cond c (sure_extent b s) unsure_extent) eq in
+        absurd (let no = none_second a b s x y (ap (λ (e : Extent). e.end) is) in cc (sym may ∙ no))
+    sure_ones true true ep eq = (
+      is_x ∙ ap (λ (c : Bool). cond c (sure_extent a s) unsure_extent) ep,
+      is_y ∙ ap (λ (c : Bool). cond c (sure_extent b s) unsure_extent) eq,
+    )
+
+    pub lost_by_second : y.one ≡ false → has (set_at s b.reg.0) x.reg ≡ false → clash_pair a b s ≡ Some s
+    lost_by_second many gone =
+        let are = sure_ones (sure a.on s) (sure b.on s) refl refl in
+        lost_pass x.reg (ap (λ (e : Extent). e.reg) are.0) (sym (ap (λ (e : Extent). e.one) are.1) ∙ many) gone
+
+    pub lost_by_first : x.one ≡ false → has (set_at s a.reg.0) y.reg ≡ false → clash_pair a b s ≡ Some s
+    lost_by_first many gone =
+        let are = sure_ones (sure a.on s) (sure b.on s) refl refl in
+        lost_back y.reg (ap (λ (e : Extent). e.reg) are.1) (sym (ap (λ (e : Extent). e.one) are.0) ∙ many) gone
+
 -- neither may be cut where it comes first
 
 swapped : (p q o1 o2 : Bool) (m n : ℕ) (c d : Bool) → (p && (q && (o1 && (o2 && (nat_eq m n && (c || d)))))) ≡ false
@@ -265,15 +309,6 @@ module _ (vs us : List VarId) (temps : List Temp) (a b : Temp) where
 
   other_place : (j : ℕ) → b ≡ get_or temps j b → j < length temps → All (TempVars vs) temps → TempVars vs b
   other_place j is lt all = subst (λ (t : Temp). TempVars vs t) (sym is) (all j b lt)
-
-  pub clash_spared : (xs : List Extent) (i j : ℕ) → us ≡ vs → a ≡ get_or temps i a → b ≡ get_or temps j b → i < length temps
-      → j < length temps → All (TempVars vs) temps → (old mid : Contents) → HasVars vs old.sets → NoneEmpty old.sets
-      → AreExtents temps old.sets xs → (f : Sets → Option Sets) (did : Pruned) → Stepped vs f old mid Same did
-      → AreSpared may_clash xs did i j → clash_pair a b mid.sets ≡ Some mid.sets
-  clash_spared xs i j e is_a is_b lt_a lt_b all old mid k full are f did h spared =
-      subst (λ (s : Sets). clash_pair a b s ≡ Some s) (sym (same_sets vs f old mid did h full spared.same))
-      (no_clash a b old.sets vs (of_place i is_a lt_a all) (other_place j is_b lt_b all) k full
-      (noted Extent extent_of temps a b xs i j is_a is_b lt_a lt_b old.sets are did may_clash spared))
 
   pub order_spared : (xs : List Extent) (i j : ℕ) → us ≡ vs → a ≡ get_or temps i a → b ≡ get_or temps j b → i < length temps
       → j < length temps → All (TempVars vs) temps → (old mid : Contents) → HasVars vs old.sets → NoneEmpty old.sets

@@ -1,5 +1,5 @@
 -- What the test whether a pruning failed says of it.
-use Rattle.std.proofs.Common.{◌≡◌, ◌≢◌, true, false, refl, sym}
+use Rattle.std.proofs.Common.{◌≡◌, ◌≢◌, true, false, not, refl, sym}
 use denote.Enum.Bare.{sameb, same_false}
 use Rattle.un_prop.specs.contracts.propagator.Pruned.{the_type}
 use Rattle.un_prop.specs.declared.propagator.Pruned.{Pruned}
@@ -17,3 +17,8 @@ pub tighter : (p : Pruned) → true ≡ sameb the_type p Tighter → p ≢ Faile
 tighter Same e = absurd (cc e)
 tighter Tighter e = λ q. cc q
 tighter Failed e = absurd (cc e)
+
+pub unchanged : (p : Pruned) → not (sameb the_type p Same) ≡ false → p ≡ Same
+unchanged Same e = refl
+unchanged Tighter e = absurd (cc e)
+unchanged Failed e = absurd (cc e)

@@ -4,10 +4,11 @@ use Rattle.std.proofs.Common.{refl, ap, ◌∙◌, subst, arith}
 use Rattle.std.specs.List.{list_any}
 use Rattle.std.proofs.lemmas.Bool.Decides.{nat_tests}
 use Rattle.un_base.specs.declared.ids.VarId.{VarId}
-use Rattle.un_domains.specs.Sets.{Sets, NoneEmpty}
+use Rattle.un_domains.specs.Sets.{Sets, set_at, has, NoneEmpty}
+use Rattle.un_prop.specs.Choices.{passes_at}
 use Rattle.un_prop.specs.LastLaws.{cut_all, passes_tested}
 use Rattle.un_rect.specs.Entries.{entry_cut, each_entry}
-use Rattle.un_rect.specs.Operands.{Side, may_have, may_avoid, other_test, other_cut}
+use Rattle.un_rect.specs.Operands.{Side, may_have, avoids_at, may_avoid, other_test, other_cut}
 use Rattle.un_rect.proofs.Survivors.{each_idle}
 
 -- an item that passes
@@ -42,3 +43,34 @@ others_free a v s within full h = each_idle (entry_cut (other_cut a v) a.allowed
     each [] i = refl
     each (x ∷ xs) zero = one x
     each (x ∷ xs) (suc i) = each xs i
+
+-- whether at some place some register serves, or some register at some place
+
+any_never : (xs : List ℕ) → list_any (λ (i : ℕ). false) xs ≡ false
+any_never [] = refl
+any_never (x ∷ xs) = any_never xs
+
+any_either : (f g : ℕ → Bool) (xs : List ℕ) → list_any (λ i. f i || g i) xs ≡ (list_any f xs || list_any g xs)
+any_either f g [] = refl
+any_either f g (x ∷ xs) = ap (λ (c : Bool). (f x || g x) || c) (any_either f g xs) ∙ mixed (f x) (g x) (list_any f xs) (list_any g xs)
+  where
+    mixed : (p q m n : Bool) → ((p || q) || (m || n)) ≡ ((p || m) || (q || n))
+    mixed true q m n = refl
+    mixed false true true n = refl
+    mixed false true false n = refl
+    mixed false false m n = refl
+
+any_held : (c : Bool) (f : ℕ → Bool) (xs : List ℕ) → list_any (λ i. c && f i) xs ≡ (c && list_any f xs)
+any_held true f xs = refl
+any_held false f xs = any_never xs
+
+any_turned : (p : ℕ → Bool) (g : ℕ → ℕ → Bool) (xs ys : List ℕ)
+    → list_any (λ i. list_any (λ q. p q && g q i) ys) xs ≡ list_any (λ q. p q && list_any (g q) xs) ys
+any_turned p g xs [] = any_never xs
+any_turned p g xs (y ∷ ys) = any_either (λ i. p y && g y i) (λ i. list_any (λ q. p q && g q i) ys) xs
+    ∙ (ap (λ (c : Bool). c || list_any (λ i. list_any (λ q. p q && g q i) ys) xs) (any_held (p y) (g y) xs)
+    ∙ ap (λ (c : Bool). (p y && list_any (g y) xs) || c) (any_turned p g xs ys))
+
+pub avoid_turned : (a : Side) (s : Sets) (r : ℕ) → list_any (avoids_at a s r) (set_at s a.choice.0) ≡ may_avoid a s r
+avoid_turned a s r = any_turned (λ q. not (nat_eq q r)) (λ q. passes_at (λ (v : VarId). has (set_at s v.0) q) a.regs)
+    (set_at s a.choice.0) a.allowed

@@ -1,12 +1,14 @@
 -- One step further in a row, and one row further.
-use Rattle.std.proofs.Common.{ℕ, suc, ◌≡◌, ◌≢◌, ◌<◌, ◌+◌, true, List, length, get_or, sym, ap, ◌∙◌, subst, arith}
+use Rattle.std.proofs.Common.{ℕ, zero, suc, ◌≡◌, ◌≢◌, ◌<◌, ◌≤◌, ◌+◌, ◌-◌, true, List, length, get_or, refl, sym, ap}
+use Rattle.std.proofs.Common.{◌∙◌, subst, arith, Some}
+use Rattle.std.proofs.lemmas.List.{get_or_default}
 use Rattle.std.specs.declared.option.Option.{Option}
 use Rattle.un_base.specs.declared.ids.VarId.{VarId}
-use Rattle.un_domains.specs.Sets.{Sets}
+use Rattle.un_domains.specs.Sets.{Sets, NoneEmpty}
 use Rattle.un_domains.specs.Cuts.{Contents}
 use Rattle.un_prop.specs.Among.{among}
 use Rattle.un_prop.specs.Going.{Stepped}
-use Rattle.un_prop.specs.GoingLaws.{stepped_by, stepped_chain}
+use Rattle.un_prop.specs.GoingLaws.{stepped_by, stepped_chain, stepped_same}
 use Rattle.un_prop.specs.LastLaws.{Ascend}
 use Rattle.un_prop.specs.Places.{each_place}
 use Rattle.un_prop.specs.Rounds.{HasVars}
@@ -80,3 +82,28 @@ place_next f xs a i vs us old mid new before did after e is lt p q =
     subst (λ (k : ℕ). Stepped vs (each_place (at_place f xs) k) old new before after) next
     (stepped_chain vs (each_place (at_place f xs) i) (at_place f xs i) old mid new before did after p
     (subst (λ (ws : List VarId). Stepped ws (at_place f xs i) mid new did after) e one))
+
+-- places at which nothing is cut are passed over
+module _ (f : Temp → Temp → Sets → Option Sets) (temps : List Temp) (b d : Temp) (vs : List VarId) (old new : Contents)
+    (before did : Pruned) (i : ℕ) (p : Stepped vs (each_before f temps b i) old new before did) where
+  skip_by : (m : ℕ) → i + m ≤ length temps
+      → ((k : ℕ) → i ≤ k → k < i + m → NoneEmpty new.sets → f (get_or temps k d) b new.sets ≡ Some new.sets)
+      → Stepped vs (each_before f temps b (i + m)) old new before did
+  skip_by zero few stays = (let e : i ≡ i + 0 = omega arith in
+      subst (λ (k : ℕ). Stepped vs (each_before f temps b k) old new before did) e p)
+  skip_by (suc m) few stays =
+      let lt : i + m < length temps = omega (arith, few) in
+      let e : (i + m) + 1 ≡ i + suc m = omega arith in
+      let a = get_or temps (i + m) d in
+      subst (λ (k : ℕ). Stepped vs (each_before f temps b k) old new before did) e
+      (row_next f temps a b (i + m) vs vs old new new before did did refl (get_or_default temps (i + m) d a lt) lt
+      (skip_by m (omega (arith, few)) (λ k le below. stays k le (omega (arith, below))))
+      (stepped_same vs (f a b) new did (stays (i + m) (omega arith) (omega arith))))
+
+  pub row_skip : (n : ℕ) → i ≤ n → n ≤ length temps
+      → ((k : ℕ) → i ≤ k → k < n → NoneEmpty new.sets → f (get_or temps k d) b new.sets ≡ Some new.sets)
+      → Stepped vs (each_before f temps b n) old new before did
+  row_skip n le few stays =
+      let e : i + (n - i) ≡ n = omega (arith, le) in
+      subst (λ (k : ℕ). Stepped vs (each_before f temps b k) old new before did) e
+      (skip_by (n - i) (omega (arith, le, few)) (λ k low below. stays k low (omega (arith, le, below))))

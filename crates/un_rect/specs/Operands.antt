@@ -43,6 +43,10 @@ may_have a s r = list_any (passes_at (λ (v : VarId). has (set_at s v.0) r) a.re
 abbrev pub may_avoid : Side → Sets → ℕ → Bool
 may_avoid a s r = list_any (λ q. not (nat_eq q r) && may_have a s q) a.allowed
 
+-- whether the one at a place may
+abbrev pub avoids_at : Side → Sets → ℕ → ℕ → Bool
+avoids_at a s r i = list_any (λ q. not (nat_eq q r) && passes_at (λ (v : VarId). has (set_at s v.0) q) a.regs i) a.allowed
+
 -- whether the variable may be an allowed register of an operand, and another one that of the other operand
 abbrev pub may_be : Side → Side → Sets → VarId → Bool
 may_be a b s v = list_any (λ r. has (set_at s v.0) r && may_avoid b s r) a.allowed

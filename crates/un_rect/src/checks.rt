@@ -15,7 +15,7 @@ ghost use Rattle.un_rect.specs.Checks.{is_off, differ, surely_apart, Written, de
 ghost use Rattle.un_rect.specs.Extents.{is_idle, var_of, AreLeft};
 ghost use Rattle.un_rect.specs.declared.opened.Opened.{Opened};
 
-use crate::left::{Left, is_done, left_again, note_left, noted_both};
+use crate::left::{Left, is_done, left_again, next_left, note_left, noted_both};
 use crate::opened::{Opened, is_more, with_temp};
 use crate::spans::end;
 use un_base::ids::VarId;
@@ -352,9 +352,11 @@ fn check_row(
     }
     let b = &temps[j];
     let mut did = Pruned::Same;
-    for i in 0..j {
+    let mut i = next_left(left, did, 0, j);
+    while i < j {
         let noted = noted_both(left, did, i, j);
         did = check(w, did, &temps[i], b, noted, fixed);
+        i = next_left(left, did, i + 1, j);
     }
     did
 }

@@ -1,17 +1,18 @@
 //! Registers that a sure temporary takes from those that it surely overlaps.
 
-ghost use Rattle.std.specs.Prelude.{◌≡◌, ◌≢◌, ◌<◌, All, length, nat_lt, slice_index_or, true, Some};
-ghost use Rattle.un_domains.specs.Sets.{NoneEmpty};
+ghost use Rattle.std.specs.Prelude.{◌≡◌, ◌≢◌, ◌<◌, ◌≤◌, ℕ, All, length, nat_eq, nat_lt, slice_index_or, true, Some};
+ghost use Rattle.un_domains.specs.Sets.{NoneEmpty, least, set_at};
 ghost use Rattle.un_prop.specs.Going.{Stepped};
 ghost use Rattle.un_prop.specs.Rounds.{HasVars};
+ghost use Rattle.un_prop.specs.declared.act.Temp.{Temp};
 ghost use Rattle.un_prop.specs.declared.propagator.Pruned.TheVariants.{Same, Failed};
 ghost use Rattle.un_rect.specs.Spans.{last_sure_use, least_end, UserVars, TempVars};
 ghost use Rattle.un_rect.specs.Apart.{sure_overlap, clash_cut, clash_pair, clashes_cut};
 ghost use Rattle.un_rect.specs.Checks.{IsClash};
-ghost use Rattle.un_rect.specs.Extents.{AreExtents};
+ghost use Rattle.un_rect.specs.Extents.{AreExtents, extent_of};
 ghost use Rattle.un_rect.specs.Pairs.{each_before};
 
-use crate::extents::{Extent, cannot_clash, note_again};
+use crate::extents::{Extent, may_clash, note_again};
 use crate::spans::{is_on, is_sure_user};
 use un_domains::window::Window;
 use un_prop::act::{Temp, UserOf};
@@ -120,22 +121,128 @@ fn keep_clashes(w: &mut Window<'_>, before: Pruned, a: &Temp, b: &Temp) -> Prune
     keep_clash(w, first, b, a)
 }
 
-/// The same, unless what was noted of them says that they do not clash.
-fn keep_noted(w: &mut Window<'_>, before: Pruned, a: &Temp, b: &Temp, passed: bool) -> Pruned
-    requires of_a { TempVars w.old.vars.now a.now }
-    requires of_b { TempVars w.old.vars.now b.now }
-    requires known { HasVars w.old.vars.now w.old.store.now.sets }
-    requires live { before ≢ Failed → NoneEmpty w.old.store.now.sets }
-    requires passed { passed ≡ true → NoneEmpty w.old.store.now.sets
-        → clash_pair a.now b.now w.old.store.now.sets ≡ Some w.old.store.now.sets }
-    ensures step { Stepped w.old.vars.now (clash_pair a.now b.now) w.old.store.now w.new.store.now before result }
-    ensures same_reference { w.new.store.ghost_name ≡ w.old.store.ghost_name }
-    ensures vars { w.new.vars ≡ w.old.vars }
+/// Whether two temporaries of these extents do not clash: by what was noted of them, or the other has lost the one register that is left
+/// of one.
+fn passes(w: &Window<'_>, a: &Temp, b: &Temp, x: Extent, y: Extent) -> bool
+    requires of_a { TempVars w.now.vars.now a.now }
+    requires of_b { TempVars w.now.vars.now b.now }
+    requires known { HasVars w.now.vars.now w.now.store.now.sets }
+    requires live { NoneEmpty w.now.store.now.sets }
+    requires first { x ≡ extent_of a.now w.now.store.now.sets }
+    requires second { y ≡ extent_of b.now w.now.store.now.sets }
+    ensures { result ≡ true → clash_pair a.now b.now w.now.store.now.sets ≡ Some w.now.store.now.sets }
 {
-    if passed {
-        return before;
+    if !may_clash(x, y) {
+        return true;
     }
-    keep_clashes(w, before, a, b)
+    if !y.one {
+        return !w.has(b.reg, x.reg);
+    }
+    if !x.one {
+        return !w.has(a.reg, y.reg);
+    }
+    false
+}
+
+/// The first place from `from` on whose temporary may clash with that at place `j`, by what was noted of them; `j` where there is none.
+fn next_noted(w: &Window<'_>, temps: &[Temp], extents: &[Extent], from: usize, j: usize) -> usize
+    requires there { j < length temps.now }
+    requires order { from ≤ j }
+    requires of_temps { All (TempVars w.now.vars.now) temps.now }
+    requires known { HasVars w.now.vars.now w.now.store.now.sets }
+    requires live { NoneEmpty w.now.store.now.sets }
+    requires are { AreExtents temps.now w.now.store.now.sets extents.now }
+    ensures low { from ≤ result }
+    ensures high { result ≤ j }
+    ensures passed { (i : ℕ) (a b : Temp) → from ≤ i → i < result → clash_pair (slice_index_or temps.now i a) (slice_index_or temps.now j b)
+        w.now.store.now.sets ≡ Some w.now.store.now.sets }
+{
+    if j >= extents.len() {
+        return from;
+    }
+    let b = &temps[j];
+    let y = extents[j];
+    for i in from..j {
+        if !passes(w, &temps[i], b, extents[i], y) {
+            return i;
+        }
+    }
+    j
+}
+
+/// Whether a temporary cannot clash with another of which it is told whether one register is left, and the least one: neither has one
+/// register left, or the other has lost that of one.
+fn misses(w: &Window<'_>, a: &Temp, b: &Temp, one: bool, reg: u32) -> bool
+    requires of_a { TempVars w.now.vars.now a.now }
+    requires of_b { TempVars w.now.vars.now b.now }
+    requires known { HasVars w.now.vars.now w.now.store.now.sets }
+    requires live { NoneEmpty w.now.store.now.sets }
+    requires one { one ≡ nat_eq (length (set_at w.now.store.now.sets b.now.reg.0)) 1 }
+    requires reg { reg ≡ least (set_at w.now.store.now.sets b.now.reg.0) }
+    ensures { result ≡ true → clash_pair a.now b.now w.now.store.now.sets ≡ Some w.now.store.now.sets }
+{
+    let first = w.is_single(a.reg);
+    if one {
+        if first {
+            return false;
+        }
+        return !w.has(a.reg, reg);
+    }
+    if first {
+        return !w.has(b.reg, w.min(a.reg));
+    }
+    true
+}
+
+/// The same place by the registers alone that are left of them.
+fn next_single(w: &Window<'_>, temps: &[Temp], from: usize, j: usize) -> usize
+    requires there { j < length temps.now }
+    requires order { from ≤ j }
+    requires of_temps { All (TempVars w.now.vars.now) temps.now }
+    requires known { HasVars w.now.vars.now w.now.store.now.sets }
+    requires live { NoneEmpty w.now.store.now.sets }
+    ensures low { from ≤ result }
+    ensures high { result ≤ j }
+    ensures passed { (i : ℕ) (a b : Temp) → from ≤ i → i < result → clash_pair (slice_index_or temps.now i a) (slice_index_or temps.now j b)
+        w.now.store.now.sets ≡ Some w.now.store.now.sets }
+{
+    let b = &temps[j];
+    let one = w.is_single(b.reg);
+    let reg = w.min(b.reg);
+    for i in from..j {
+        if !misses(w, &temps[i], b, one, reg) {
+            return i;
+        }
+    }
+    j
+}
+
+/// The first place from `from` on whose temporary may clash with that at place `j`, or `j`. What was noted of them stands until something
+/// changed; from then on the registers that are left are looked at.
+fn next_clash(
+    w: &Window<'_>,
+    temps: &[Temp],
+    extents: &[Extent],
+    did: Pruned,
+    from: usize,
+    j: usize,
+) -> usize
+    requires there { j < length temps.now }
+    requires order { from ≤ j }
+    requires of_temps { All (TempVars w.now.vars.now) temps.now }
+    requires known { HasVars w.now.vars.now w.now.store.now.sets }
+    requires live { did ≢ Failed → NoneEmpty w.now.store.now.sets }
+    requires are { did ≡ Same → AreExtents temps.now w.now.store.now.sets extents.now }
+    ensures low { from ≤ result }
+    ensures high { result ≤ j }
+    ensures passed { (i : ℕ) (a b : Temp) → from ≤ i → i < result → clash_pair (slice_index_or temps.now i a) (slice_index_or temps.now j b)
+        w.now.store.now.sets ≡ Some w.now.store.now.sets }
+{
+    match did {
+        Pruned::Same => next_noted(w, temps, extents, from, j),
+        Pruned::Tighter => next_single(w, temps, from, j),
+        Pruned::Failed => from,
+    }
 }
 
 /// Of the temporary at place `j` with each one before it. There is nothing to do where it is not sure.
@@ -155,9 +262,10 @@ fn keep_row(w: &mut Window<'_>, temps: &[Temp], extents: &[Extent], j: usize) ->
         return Pruned::Same;
     }
     let mut did = Pruned::Same;
-    for i in 0..j {
-        let passed = cannot_clash(extents, did, i, j);
-        did = keep_noted(w, did, &temps[i], b, passed);
+    let mut i = next_clash(w, temps, extents, did, 0, j);
+    while i < j {
+        did = keep_clashes(w, did, &temps[i], b);
+        i = next_clash(w, temps, extents, did, i + 1, j);
     }
     did
 }

@@ -1,10 +1,10 @@
 //! What a store says of each temporary, noted once for many looks: its starts, its least end, its last reading and its register.
 
-ghost use Rattle.std.specs.Prelude.{◌≡◌, ◌≢◌, All, true};
+ghost use Rattle.std.specs.Prelude.{◌≡◌, ◌≢◌, All};
 ghost use Rattle.un_domains.specs.Sets.{NoneEmpty};
 ghost use Rattle.un_prop.specs.Rounds.{HasVars};
 ghost use Rattle.un_prop.specs.declared.propagator.Pruned.TheVariants.{Same, Failed};
-ghost use Rattle.un_rect.specs.Extents.{extent_of, unsure_extent, may_clash, is_settled, may_lead, may_order, AreExtents, AreSpared};
+ghost use Rattle.un_rect.specs.Extents.{extent_of, unsure_extent, may_clash, is_settled, may_lead, may_order, AreExtents};
 ghost use Rattle.un_rect.specs.Spans.{TempVars};
 
 use crate::spans::{is_on, last_reading, least_end};
@@ -101,7 +101,7 @@ pub(crate) fn note_again(w: &Window<'_>, did: Pruned, temps: &[Temp], extents: &
 }
 
 /// Whether two temporaries of these extents may clash: they surely overlap, one has one register left, and not both have other ones.
-fn may_clash(x: Extent, y: Extent) -> bool
+pub(crate) fn may_clash(x: Extent, y: Extent) -> bool
     ensures { result ≡ may_clash x y }
 {
     if x.end <= u64::from(y.start) {
@@ -133,43 +133,11 @@ fn may_lead(x: Extent, y: Extent) -> bool
 
 /// Whether two temporaries of these extents are sure and have the same one register left, and one of them may still be cut where it
 /// comes first.
-fn may_order(x: Extent, y: Extent) -> bool
+pub(crate) fn may_order(x: Extent, y: Extent) -> bool
     ensures { result ≡ may_order x y }
 {
     if !(x.sure && y.sure && x.one && y.one && x.reg == y.reg) {
         return false;
     }
     may_lead(x, y) || may_lead(y, x)
-}
-
-/// Whether what was noted of two temporaries, while nothing changed, says that they do not clash.
-pub(crate) fn cannot_clash(extents: &[Extent], did: Pruned, i: usize, j: usize) -> bool
-    ensures { result ≡ true → AreSpared may_clash extents.now did i j }
-{
-    if did != Pruned::Same {
-        return false;
-    }
-    if i >= extents.len() {
-        return false;
-    }
-    if j >= extents.len() {
-        return false;
-    }
-    !may_clash(extents[i], extents[j])
-}
-
-/// Whether what was noted of two temporaries, while nothing changed, says that neither is cut where it comes first.
-pub(crate) fn cannot_order(extents: &[Extent], did: Pruned, i: usize, j: usize) -> bool
-    ensures { result ≡ true → AreSpared may_order extents.now did i j }
-{
-    if did != Pruned::Same {
-        return false;
-    }
-    if i >= extents.len() {
-        return false;
-    }
-    if j >= extents.len() {
-        return false;
-    }
-    !may_order(extents[i], extents[j])
 }

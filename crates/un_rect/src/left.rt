@@ -1,6 +1,6 @@
 //! What is left to decide of each temporary, noted once for many checks.
 
-ghost use Rattle.std.specs.Prelude.{◌≡◌, ◌≢◌, ◌<◌, All, Some, length, slice_index_or};
+ghost use Rattle.std.specs.Prelude.{◌≡◌, ◌≢◌, ◌<◌, ◌≤◌, ℕ, All, Some, length, slice_index_or};
 ghost use Rattle.un_domains.specs.Sets.{NoneEmpty};
 ghost use Rattle.un_prop.specs.Rounds.{HasVars};
 ghost use Rattle.un_prop.specs.declared.act.Temp.{Temp};
@@ -8,6 +8,7 @@ ghost use Rattle.un_prop.specs.declared.propagator.Pruned.TheVariants.{Same, Fai
 ghost use Rattle.un_rect.specs.Extents.{is_idle, left_opened, left_of, are_parted, opened_both, left_both, AreLeft, IsNoted};
 ghost use Rattle.un_rect.specs.Spans.{TempVars};
 ghost use Rattle.un_rect.specs.declared.opened.Opened.{Opened};
+ghost use Rattle.un_rect.specs.declared.opened.Opened.TheVariants.{More};
 
 use crate::checks::{is_idle, is_off};
 use crate::opened::{Opened, is_more, with_temp};
@@ -168,4 +169,25 @@ pub(crate) fn noted_both(left: &[Left], did: Pruned, i: usize, j: usize) -> Opti
         return None;
     }
     Some(left_both(left[i], left[j]))
+}
+
+/// The first place from `from` on of which there may be something to check with the temporary at place `j`, by what was noted of them;
+/// `j` where there is none. Nothing is known of them any more once something changed.
+pub(crate) fn next_left(left: &[Left], did: Pruned, from: usize, j: usize) -> usize
+    requires { from ≤ j }
+    ensures low { from ≤ result }
+    ensures high { result ≤ j }
+    ensures passed { (i : ℕ) → from ≤ i → i < result → IsNoted left.now did i j More }
+{
+    if did != Pruned::Same || j >= left.len() {
+        return from;
+    }
+    let y = left[j];
+    for i in from..j {
+        match left_both(left[i], y) {
+            Opened::More => {}
+            _ => return i,
+        }
+    }
+    j
 }

@@ -5,7 +5,7 @@ ghost use Rattle.un_domains.specs.Sets.{set_at, has, NoneEmpty};
 ghost use Rattle.un_prop.specs.Rounds.{HasVars};
 ghost use Rattle.un_prop.specs.Among.{among, AllAmong};
 ghost use Rattle.un_prop.specs.Choices.{passes_at};
-ghost use Rattle.un_rect.specs.Operands.{SideVars, side_passes, may_have, may_avoid, may_be};
+ghost use Rattle.un_rect.specs.Operands.{SideVars, side_passes, may_have, avoids_at, may_avoid, may_be};
 ghost use Rattle.un_rect.specs.Sides.{side_of};
 
 use un_base::ids::VarId;
@@ -58,16 +58,35 @@ fn may_have(w: &Window<'_>, o: &Operand<'_>, r: u32) -> bool
     false
 }
 
-/// Whether the register of an operand may be an allowed one other than `r`.
+/// Whether the register at a place may be an allowed one other than `r`.
+fn avoids_at(w: &Window<'_>, o: &Operand<'_>, i: u32, r: u32) -> bool
+    requires vars { AllAmong w.now.vars.now o.now.regs.now }
+    requires known { HasVars w.now.vars.now w.now.store.now.sets }
+    ensures { result ≡ avoids_at (side_of o.now) w.now.store.now.sets r i }
+{
+    for q in o.allowed {
+        if *q != r {
+            if has_at(w, o.regs, i, *q) {
+                return true;
+            }
+        }
+    }
+    false
+}
+
+/// Whether the register of an operand may be an allowed one other than `r`. A place has many registers mostly, so it is looked at as a
+/// whole before the next one.
 pub(crate) fn may_avoid(w: &Window<'_>, o: &Operand<'_>, r: u32) -> bool
     requires vars { SideVars w.now.vars.now (side_of o.now) }
     requires known { HasVars w.now.vars.now w.now.store.now.sets }
     requires live { NoneEmpty w.now.store.now.sets }
     ensures { result ≡ may_avoid (side_of o.now) w.now.store.now.sets r }
 {
-    for q in o.allowed {
-        if *q != r {
-            if may_have(w, o, *q) {
+    let low = u64::from(w.min(o.choice));
+    let end = u64::from(w.max(o.choice)) + 1;
+    for i in low..end {
+        if w.has(o.choice, i as u32) {
+            if avoids_at(w, o, i as u32, r) {
                 return true;
             }
         }

@@ -1,6 +1,6 @@
 //! The order of two sure temporaries with the same one register left.
 
-ghost use Rattle.std.specs.Prelude.{◌≡◌, ◌≢◌, ◌<◌, ◌+◌, All, length, slice_index_or, true, Some};
+ghost use Rattle.std.specs.Prelude.{◌≡◌, ◌≢◌, ◌<◌, ◌≤◌, ◌+◌, ℕ, All, length, slice_index_or};
 ghost use Rattle.un_domains.specs.Sets.{NoneEmpty};
 ghost use Rattle.un_prop.specs.Going.{Stepped};
 ghost use Rattle.un_prop.specs.Rounds.{HasVars};
@@ -8,11 +8,11 @@ ghost use Rattle.un_prop.specs.declared.propagator.Pruned.TheVariants.{Same, Fai
 ghost use Rattle.un_rect.specs.Spans.{least_end, UserVars, TempVars};
 ghost use Rattle.un_rect.specs.Orders.{share_one, comes_first, time_cut, late_test, early_test, user_test, sure_late};
 ghost use Rattle.un_rect.specs.Orders.{reader_cut, user_cut, users_cut, order_steps, order_cut, order_pair, orders_cut};
-ghost use Rattle.un_rect.specs.Extents.{AreExtents};
+ghost use Rattle.un_rect.specs.Extents.{AreExtents, AreSpared, may_order};
 ghost use Rattle.un_rect.specs.Pairs.{each_before};
 
 use crate::clashes::ends_after;
-use crate::extents::{Extent, cannot_order, note_again};
+use crate::extents::{Extent, may_order, note_again};
 use crate::spans::{is_on, is_only, is_sure_user, last_sure_use};
 use un_domains::window::Window;
 use un_prop::act::{At, Temp, UserOf};
@@ -260,22 +260,24 @@ fn keep_orders(w: &mut Window<'_>, before: Pruned, a: &Temp, b: &Temp) -> Pruned
     keep_order(w, first, b, a)
 }
 
-/// The same, unless what was noted of them says that neither comes first.
-fn keep_noted(w: &mut Window<'_>, before: Pruned, a: &Temp, b: &Temp, passed: bool) -> Pruned
-    requires of_a { TempVars w.old.vars.now a.now }
-    requires of_b { TempVars w.old.vars.now b.now }
-    requires known { HasVars w.old.vars.now w.old.store.now.sets }
-    requires live { before ≢ Failed → NoneEmpty w.old.store.now.sets }
-    requires passed { passed ≡ true → NoneEmpty w.old.store.now.sets
-        → order_pair a.now b.now w.old.store.now.sets ≡ Some w.old.store.now.sets }
-    ensures step { Stepped w.old.vars.now (order_pair a.now b.now) w.old.store.now w.new.store.now before result }
-    ensures same_reference { w.new.store.ghost_name ≡ w.old.store.ghost_name }
-    ensures vars { w.new.vars ≡ w.old.vars }
+/// The first place from `from` on whose temporary may be cut with that at place `j`, by what was noted of them; `j` where there is none.
+/// Nothing is known of them any more once something changed.
+fn next_order(extents: &[Extent], did: Pruned, from: usize, j: usize) -> usize
+    requires order { from ≤ j }
+    ensures low { from ≤ result }
+    ensures high { result ≤ j }
+    ensures passed { (i : ℕ) → from ≤ i → i < result → AreSpared may_order extents.now did i j }
 {
-    if passed {
-        return before;
+    if did != Pruned::Same || j >= extents.len() {
+        return from;
     }
-    keep_orders(w, before, a, b)
+    let y = extents[j];
+    for i in from..j {
+        if may_order(extents[i], y) {
+            return i;
+        }
+    }
+    j
 }
 
 /// Of the temporary at place `j` with each one before it. There is nothing to do where it has other than one register, or is not sure.
@@ -298,9 +300,10 @@ fn keep_row(w: &mut Window<'_>, temps: &[Temp], extents: &[Extent], j: usize) ->
         return Pruned::Same;
     }
     let mut did = Pruned::Same;
-    for i in 0..j {
-        let passed = cannot_order(extents, did, i, j);
-        did = keep_noted(w, did, &temps[i], b, passed);
+    let mut i = next_order(extents, did, 0, j);
+    while i < j {
+        did = keep_orders(w, did, &temps[i], b);
+        i = next_order(extents, did, i + 1, j);
     }
     did
 }

@@ -25,7 +25,19 @@ use Rattle.un_alt.specs.FrameCuts.{is_unused, is_ordered, sure_use, flag_cut, to
 use Rattle.un_alt.specs.FrameCuts.{early_test}
 use Rattle.un_alt.specs.FrameCuts.{order_cut, entry_cut, copy_cut, call_cut, left_cut, use_steps, op_steps, order_steps, OrderVars}
 use Rattle.un_alt.proofs.Orders.{late_is, going}
+use Rattle.un_alt.proofs.Idle.{leaves_idle}
 use Rattle.un_alt.proofs.frame_cuts.keep_all_left.Goals as goal
+
+pub is_only-requires-clause-there : goal.is_only-requires-clause-there
+is_only-requires-clause-there c = let p = c.args.p.now in has_among p.vars p.flag c.args.w.now.store.now.sets p.among.of_flag
+    c.requires.known
+
+pub returns-then-not-is_only-clause-step : goal.returns-then-not-is_only-clause-step
+returns-then-not-is_only-clause-step c =
+    let p = c.args.p.now in
+    let s = c.args.w.now.store.now in
+    stepped_same c.args.w.now.vars.now (round (left_cut p.flag) p.leaves) s c.args.before (λ live. leaves_idle p.vars p.flag s.sets
+    c.requires.known live (sym c.is_only.ensures ∙ c.if-not-is_only.true) p.leaves p.among.of_leaves)
 
 pub keep_left-did-requires-clause-of_leave : goal.keep_left-did-requires-clause-of_leave
 keep_left-did-requires-clause-of_leave c =

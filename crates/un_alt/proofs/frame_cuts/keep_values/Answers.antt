@@ -25,7 +25,15 @@ use Rattle.un_alt.specs.FrameCuts.{is_unused, is_ordered, sure_use, flag_cut, to
 use Rattle.un_alt.specs.FrameCuts.{early_test}
 use Rattle.un_alt.specs.FrameCuts.{order_cut, entry_cut, copy_cut, call_cut, left_cut, use_steps, op_steps, order_steps, OrderVars}
 use Rattle.un_alt.proofs.Orders.{late_is, going}
+use Rattle.un_alt.proofs.Idle.{slots_idle}
 use Rattle.un_alt.proofs.frame_cuts.keep_values.Goals as goal
+
+pub returns-then-not-is_unused-clause-step : goal.returns-then-not-is_unused-clause-step
+returns-then-not-is_unused-clause-step c =
+    let p = c.args.p.now in
+    let s = c.args.w.now.store.now in
+    stepped_same c.args.w.now.vars.now (round (slot_cut p.flag) p.ins) s c.args.before (λ live. slots_idle p.vars p.flag s.sets
+    c.requires.known live (sym c.is_unused.ensures ∙ c.if-not-is_unused.true) p.ins p.among.of_ins)
 
 pub keep_value-did-requires-clause-of_v : goal.keep_value-did-requires-clause-of_v
 keep_value-did-requires-clause-of_v c =

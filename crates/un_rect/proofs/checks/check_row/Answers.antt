@@ -1,4 +1,5 @@
-use Rattle.std.proofs.Common.{List, ◌≡◌, ◌≢◌, ◌<◌, ◌∙◌, All, get_or, length, refl, sym, ap, subst, arith}
+use Rattle.std.proofs.Common.{List, ◌≡◌, ◌≢◌, ◌<◌, ◌≤◌, ◌+◌, ◌∙◌, All, get_or, length, refl, sym, ap, subst, arith}
+use Rattle.std.proofs.lemmas.List.{get_or_default}
 use Rattle.std.proofs.lemmas.List.Elements.{recursion_from_All}
 use Rattle.un_base.specs.declared.ids.VarId.{VarId}
 use Rattle.un_domains.specs.Sets.{set_at, least}
@@ -10,8 +11,9 @@ use Rattle.un_rect.specs.Spans.{TempVars}
 use Rattle.un_rect.specs.Apart.{check_pair}
 use Rattle.un_rect.specs.Pairs.{each_before}
 use Rattle.un_rect.proofs.CheckSteps.{checks_idle}
-use Rattle.un_rect.proofs.ExtentLaws.{check_noted}
-use Rattle.un_rect.proofs.Rows.{row_next, same_ascend, same_known, same_temp, same_written}
+use Rattle.un_rect.specs.declared.opened.Opened.TheVariants.{More}
+use Rattle.un_rect.proofs.ExtentLaws.{check_noted, some_temp}
+use Rattle.un_rect.proofs.Rows.{row_next, row_skip, same_ascend, same_known, same_temp, same_written}
 use Rattle.un_rect.proofs.checks.check_row.Goals as goal
 
 pub returns-then-is_done-clause-step : goal.returns-then-is_done-clause-step
@@ -33,7 +35,7 @@ check-did-requires-clause-of_a c =
     let i = c.loop-i.i in
     same_temp c.args.w.now.vars.now c.loop-i.w.vars.now c.index-temps-i.result (ap (λ r. r.now) c.loop-i.invariant.vars)
     (subst (λ (a : Temp). TempVars c.args.w.now.vars.now a) (sym c.index-temps-i.is) (c.requires.of_temps i c.index-temps-i.result
-    (omega (arith, c.loop-i-test.true, c.loop-i.auto.i-end, c.requires.there))))
+    (omega (arith, c.loop-i-test.true, c.requires.there))))
 
 pub check-did-requires-clause-of_b : goal.check-did-requires-clause-of_b
 check-did-requires-clause-of_b c =
@@ -58,7 +60,7 @@ check-did-requires-clause-written c = same_written c.args.w.now.vars.now c.loop-
 pub check-did-requires-clause-noted : goal.check-did-requires-clause-noted
 check-did-requires-clause-noted c = λ other o is.
     (let i = c.loop-i.i in
-    let lt : i < length c.args.temps.now = omega (arith, c.loop-i-test.true, c.loop-i.auto.i-end, c.requires.there) in
+    let lt : i < length c.args.temps.now = omega (arith, c.loop-i-test.true, c.requires.there) in
     check_noted c.args.w.now.vars.now c.loop-i.w.vars.now c.args.temps.now c.index-temps-i.result c.index-temps-j.result
     c.args.left.now i c.args.j (ap (λ r. r.now) c.loop-i.invariant.vars) c.index-temps-i.is c.index-temps-j.is lt c.requires.there
     c.requires.of_temps c.args.w.now.store.now c.loop-i.w.store.now c.requires.known c.requires.live c.requires.are
@@ -68,9 +70,21 @@ check-did-requires-clause-noted c = λ other o is.
 pub loop-i-init : goal.loop-i-init
 loop-i-init c =
     let vs = c.args.w.now.vars.now in
+    let s = c.args.w.now.store.now in
+    let temps = c.args.temps.now in
+    let b = c.index-temps-j.result in
+    let first = c.next_left-i in
+    let start = stepped_same vs (each_before (check_pair vs) temps b 0) s Same (λ live. refl) in
+    let few : first.result ≤ length temps = omega (arith, first.ensures.high, c.requires.there) in
     record {
-      step = stepped_same vs (each_before (check_pair vs) c.args.temps.now c.index-temps-j.result 0) c.args.w.now.store.now Same
-          (λ live. refl);
+      within = first.ensures.high;
+      step = row_skip (check_pair vs) temps b some_temp vs s s Same Same 0 start first.result (omega arith) few
+          (λ k low below live. (
+          let lt : k < length temps = omega (arith, below, few) in
+          let a = get_or temps k some_temp in
+          check_noted vs vs temps a b c.args.left.now k c.args.j refl (get_or_default temps k some_temp a lt) c.index-temps-j.is lt
+          c.requires.there c.requires.of_temps s s c.requires.known c.requires.live c.requires.are (each_before (check_pair vs) temps b 0)
+          Same start c.requires.ascend More (first.ensures.passed k low below)));
       written = λ still. c.requires.written;
       same_reference = refl;
       vars = refl;
@@ -83,16 +97,28 @@ loop-i-preserved c =
     let e = ap (λ r. r.now) inv.vars in
     let vs = c.args.w.now.vars.now in
     let us = c.loop-i.w.vars.now in
+    let old = c.args.w.now.store.now in
+    let new = did.new.w.store.now in
+    let temps = c.args.temps.now in
+    let a = c.index-temps-i.result in
     let b = c.index-temps-j.result in
+    let i = c.loop-i.i in
+    let later = c.next_left-i-in-loop-i in
+    let next = row_next (check_pair vs) temps a b i vs us old c.loop-i.w.store.now new Same c.loop-i.did did.result e c.index-temps-i.is
+    (omega (arith, c.loop-i-test.true, c.requires.there)) inv.step
+    (subst (λ (ws : List VarId). Stepped us (check_pair ws a b) c.loop-i.w.store.now new c.loop-i.did did.result) e did.ensures.step) in
+    let few : later.result ≤ length temps = omega (arith, later.ensures.high, c.requires.there) in
     record {
-      step = row_next (check_pair vs) c.args.temps.now c.index-temps-i.result b c.loop-i.i vs us c.args.w.now.store.now
-          c.loop-i.w.store.now did.new.w.store.now
-          Same c.loop-i.did did.result e c.index-temps-i.is
-          (omega (arith, c.loop-i-test.true, c.loop-i.auto.i-end, c.requires.there)) inv.step
-          (subst (λ (ws : List VarId). Stepped us (check_pair ws c.index-temps-i.result b) c.loop-i.w.store.now
-          did.new.w.store.now c.loop-i.did did.result) e did.ensures.step);
+      within = later.ensures.high;
+      step = row_skip (check_pair vs) temps b some_temp vs old new Same did.result (i + 1) next later.result later.ensures.low few
+          (λ k low below live. (
+          let lt : k < length temps = omega (arith, below, few) in
+          let t = get_or temps k some_temp in
+          check_noted vs vs temps t b c.args.left.now k c.args.j refl (get_or_default temps k some_temp t lt) c.index-temps-j.is lt
+          c.requires.there c.requires.of_temps old new c.requires.known c.requires.live c.requires.are
+          (each_before (check_pair vs) temps b (i + 1)) did.result next c.requires.ascend More (later.ensures.passed k low below)));
       written = subst (λ (ws : List VarId). did.result ≢ Failed
-          → All (λ u. get_or did.new.fixed u.0 0 ≡ least (set_at did.new.w.store.now.sets u.0)) ws) e did.ensures.written;
+          → All (λ u. get_or did.new.fixed u.0 0 ≡ least (set_at new.sets u.0)) ws) e did.ensures.written;
       same_reference = did.ensures.same_reference ∙ inv.same_reference;
       vars = did.ensures.vars ∙ inv.vars;
     }

@@ -1,10 +1,10 @@
--- the registers so far are not such ones
-use Rattle.std.proofs.Common.{◌≡◌, ◌&&◌, not, nat_eq, drop}
-use Rattle.std.specs.List.{list_any}
-use Rattle.un_rect.specs.Operands.{may_have}
+-- no place below i has such a register
+use Rattle.std.proofs.Common.{◌≡◌, false}
+use Rattle.un_domains.specs.Sets.{set_at}
+use Rattle.un_prop.specs.Somewhere.{any_before}
+use Rattle.un_rect.specs.Operands.{avoids_at}
 use Rattle.un_rect.specs.Sides.{side_of}
 use Rattle.un_rect.proofs.operand.may_avoid.Given as goal
 
-abbrev pub invariant-loop-q : goal.invariant-loop-q
-invariant-loop-q l = list_any (λ q. not (nat_eq q l.r) && may_have (side_of l.o) l.w.store.now.sets q) (drop l.q-index l.q-items)
-    ≡ list_any (λ q. not (nat_eq q l.r) && may_have (side_of l.o) l.w.store.now.sets q) l.q-items
+abbrev pub invariant-loop-i : goal.invariant-loop-i
+invariant-loop-i l = any_before (avoids_at (side_of l.o) l.w.store.now.sets l.r) (set_at l.w.store.now.sets l.o.choice.0) l.i ≡ false

@@ -1,7 +1,0 @@
-use Rattle.un_prop.specs.GoingLaws.{stepped_same}
-use Rattle.un_rect.specs.Orders.{order_pair}
-use Rattle.un_rect.proofs.orders.keep_noted.Goals as goal
-
-pub returns-then-passed-clause-step : goal.returns-then-passed-clause-step
-returns-then-passed-clause-step c = stepped_same c.args.w.now.vars.now (order_pair c.args.a.now c.args.b.now) c.args.w.now.store.now
-    c.args.before (λ live. c.requires.passed c.if-passed.true live)
