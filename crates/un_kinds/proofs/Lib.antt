@@ -1,3 +1,4 @@
 pub mod Appends
 pub mod Rising
 pub mod Scoped
+pub mod Sweeping

@@ -5,4 +5,5 @@ pub mod Fixing
 pub mod FixingLaws
 pub mod OneList
 pub mod Scopes
+pub mod Sweeps
 pub mod Table

@@ -7,5 +7,6 @@ pub mod make_prec;
 pub mod make_press;
 pub mod make_rect;
 pub mod props;
+mod sweep;
 pub mod table;
 pub mod vars;

@@ -31,11 +31,11 @@ fn chosen_vars(
 ) -> Result<Items<VarId>, AllocError>
     ensures { IfOk result (λ vs. IsScope vs (act_vars user ++ own_var choice ++ vars_in act_vars alts.now)) }
 {
-    let mut vars = Vec::new(alloc);
+    let mut vars = Vec::with_capacity(alloc, alts.len().saturating_add(2))?;
     user.add_to(&mut vars)?;
     choice.add_to(&mut vars)?;
     alts.add_to(&mut vars)?;
-    Ok(rising(vars))
+    rising(alloc, vars)
 }
 
 /// An operand of `user` that chooses an active temporary.
@@ -65,10 +65,10 @@ fn zeros_vars(
 ) -> Result<Items<VarId>, AllocError>
     ensures { IfOk result (λ vs. IsScope vs (own_var instr ++ vars_in own_var others.now)) }
 {
-    let mut vars = Vec::new(alloc);
+    let mut vars = Vec::with_capacity(alloc, others.len().saturating_add(1))?;
     instr.add_to(&mut vars)?;
     others.add_to(&mut vars)?;
-    Ok(rising(vars))
+    rising(alloc, vars)
 }
 
 /// An optional operation that has only zeros where it is not active.
@@ -93,11 +93,11 @@ fn spaces_vars(
 ) -> Result<Items<VarId>, AllocError>
     ensures { IfOk result (λ vs. IsScope vs (act_vars on ++ choice_vars choice ++ vars_in own_var regs.now)) }
 {
-    let mut vars = Vec::new(alloc);
+    let mut vars = Vec::with_capacity(alloc, regs.len().saturating_add(2))?;
     on.add_to(&mut vars)?;
     choice.add_to(&mut vars)?;
     regs.add_to(&mut vars)?;
-    Ok(rising(vars))
+    rising(alloc, vars)
 }
 
 /// An operand or a result that lies in the set of its operation's number.
@@ -130,11 +130,11 @@ fn same_vars(
 ) -> Result<Items<VarId>, AllocError>
     ensures { IfOk result (λ vs. IsScope vs (own_var choice ++ vars_in own_var regs.now ++ own_var to)) }
 {
-    let mut vars = Vec::new(alloc);
+    let mut vars = Vec::with_capacity(alloc, regs.len().saturating_add(2))?;
     choice.add_to(&mut vars)?;
     regs.add_to(&mut vars)?;
     to.add_to(&mut vars)?;
-    Ok(rising(vars))
+    rising(alloc, vars)
 }
 
 /// A congruence: what is chosen has the register of another.
@@ -164,10 +164,10 @@ fn home_vars(
 ) -> Result<Items<VarId>, AllocError>
     ensures { IfOk result (λ vs. IsScope vs (choice_vars choice ++ vars_in own_var regs.now)) }
 {
-    let mut vars = Vec::new(alloc);
+    let mut vars = Vec::with_capacity(alloc, regs.len().saturating_add(1))?;
     choice.add_to(&mut vars)?;
     regs.add_to(&mut vars)?;
-    Ok(rising(vars))
+    rising(alloc, vars)
 }
 
 /// An operand that chooses what has its home.
@@ -227,7 +227,7 @@ fn frame_vars(alloc: Global, f: &FrameFields) -> Result<Items<VarId>, AllocError
     f.enter.add_to(&mut vars)?;
     f.entry.add_to(&mut vars)?;
     f.leaves.add_to(&mut vars)?;
-    Ok(rising(vars))
+    rising(alloc, vars)
 }
 
 /// The frame: its flag, Enter and Leave agree with its use.

@@ -33,7 +33,7 @@ fn before_vars(
     a_on.add_to(&mut vars)?;
     b.add_to(&mut vars)?;
     b_on.add_to(&mut vars)?;
-    Ok(rising(vars))
+    rising(alloc, vars)
 }
 
 /// A precedence: `b` at least `gap` after `a`, where both are active.
@@ -69,12 +69,12 @@ fn reads_vars(
 ) -> Result<Items<VarId>, AllocError>
     ensures { IfOk result (λ vs. IsScope vs (at_vars user ++ act_vars on ++ own_var choice ++ vars_in alt_vars alts.now)) }
 {
-    let mut vars = Vec::new(alloc);
+    let mut vars = Vec::with_capacity(alloc, alts.len().saturating_mul(2).saturating_add(3))?;
     user.add_to(&mut vars)?;
     on.add_to(&mut vars)?;
     choice.add_to(&mut vars)?;
     alts.add_to(&mut vars)?;
-    Ok(rising(vars))
+    rising(alloc, vars)
 }
 
 /// An operand of `user` that waits for what it chooses.
@@ -106,7 +106,7 @@ fn inside_vars(alloc: Global, at: VarId, on: Act, end: VarId) -> Result<Items<Va
     at.add_to(&mut vars)?;
     on.add_to(&mut vars)?;
     end.add_to(&mut vars)?;
-    Ok(rising(vars))
+    rising(alloc, vars)
 }
 
 /// An operation that issues inside its block.
@@ -124,7 +124,7 @@ fn last_vars(alloc: Global, at: VarId, end: VarId) -> Result<Items<VarId>, Alloc
     let mut vars = Vec::new(alloc);
     at.add_to(&mut vars)?;
     end.add_to(&mut vars)?;
-    Ok(rising(vars))
+    rising(alloc, vars)
 }
 
 /// A control transfer that issues in the last cycle of its block.
@@ -141,7 +141,7 @@ fn below_vars(alloc: Global, ends: &Items<Weighted>) -> Result<Items<VarId>, All
 {
     let mut vars = Vec::new(alloc);
     ends.add_to(&mut vars)?;
-    Ok(rising(vars))
+    rising(alloc, vars)
 }
 
 /// A cost below a limit.

@@ -19,7 +19,7 @@ fn live_vars(alloc: Global, values: &Items<Span>) -> Result<Items<VarId>, AllocE
 {
     let mut vars = Vec::new(alloc);
     values.add_to(&mut vars)?;
-    Ok(rising(vars))
+    rising(alloc, vars)
 }
 
 /// Values for which there is room in each cycle.
@@ -47,7 +47,7 @@ fn call_vars(alloc: Global, call: VarId) -> Result<Items<VarId>, AllocError>
 {
     let mut vars = Vec::new(alloc);
     call.add_to(&mut vars)?;
-    Ok(rising(vars))
+    rising(alloc, vars)
 }
 
 /// A call for which there is room for the values that cross it.

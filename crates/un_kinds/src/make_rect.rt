@@ -26,7 +26,7 @@ fn apart_vars(alloc: Global, temps: &Items<Temp>) -> Result<Items<VarId>, AllocE
 {
     let mut vars = Vec::new(alloc);
     temps.add_to(&mut vars)?;
-    Ok(rising(vars))
+    rising(alloc, vars)
 }
 
 /// Temporaries of which no two with one register overlap.
@@ -49,7 +49,7 @@ fn across_vars(
     let mut vars = Vec::new(alloc);
     temp.add_to(&mut vars)?;
     calls.add_to(&mut vars)?;
-    Ok(rising(vars))
+    rising(alloc, vars)
 }
 
 /// A temporary that has no register of the mask across the calls.
@@ -91,12 +91,15 @@ fn operands_vars(
     ensures { IfOk result (λ vs. IsScope vs (own_var a.now.choice ++ vars_in own_var a.now.regs
         ++ (own_var b.now.choice ++ vars_in own_var b.now.regs))) }
 {
-    let mut vars = Vec::new(alloc);
+    let mut vars = Vec::with_capacity(
+        alloc,
+        a.regs.len().saturating_add(b.regs.len()).saturating_add(2),
+    )?;
     a.choice.add_to(&mut vars)?;
     a.regs.add_to(&mut vars)?;
     b.choice.add_to(&mut vars)?;
     b.regs.add_to(&mut vars)?;
-    Ok(rising(vars))
+    rising(alloc, vars)
 }
 
 /// Two operands that read different values.
@@ -132,7 +135,7 @@ fn slot_vars(alloc: Global, items: &Items<Item>) -> Result<Items<VarId>, AllocEr
 {
     let mut vars = Vec::new(alloc);
     items.add_to(&mut vars)?;
-    Ok(rising(vars))
+    rising(alloc, vars)
 }
 
 /// Operations that take no more of each resource in a cycle than a packet has.
@@ -155,7 +158,7 @@ fn block_vars(alloc: Global, block: &Block) -> Result<Items<VarId>, AllocError>
     let mut vars = Vec::new(alloc);
     block.ops.add_to(&mut vars)?;
     block.end.add_to(&mut vars)?;
-    Ok(rising(vars))
+    rising(alloc, vars)
 }
 
 /// Operations of a block that have room before its end.

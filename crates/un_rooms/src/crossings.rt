@@ -1,21 +1,20 @@
 //! What crosses calls: the values that are there before a call, and are read behind it or go into what is.
 
-ghost use Rattle.std.specs.Prelude.{◌≡◌, ◌==◌, ◌&&◌, ◌||◌, ◌++◌, not, true, false, All, IfOk, OnOk, filter, length, map, ℕ};
+ghost use Rattle.std.specs.Prelude.{◌≡◌, ◌==◌, ◌&&◌, ◌||◌, not, true, false, All, IfOk, filter, length, map};
 ghost use Rattle.std.specs.List.{list_any};
-ghost use Rattle.std.specs.Option.{option_to_list};
 ghost use Rattle.un_ir.specs.Kinds.{is_source};
 ghost use Rattle.un_ir.specs.declared.extended.Operand.{Operand};
 ghost use Rattle.un_ir.specs.Linear.{first_of, is_in};
 ghost use Rattle.un_model.specs.declared.model.Arc.{Arc};
 ghost use Rattle.un_rooms.specs.Reach.{mark_at, IsWithin, IsArcWithin};
 ghost use Rattle.un_sites.specs.Crossings.{is_register_home, is_asked, reads_value, is_ahead, is_loose, crossing, is_crossing};
-ghost use Rattle.un_sites.specs.Crossings.{is_carried, first_new, handed_by, handed};
 ghost use Rattle.un_sites.specs.Places.{Place};
 ghost use Rattle.un_sites.specs.Rooms.{is_behind};
 ghost use Rattle.un_sites.specs.Sites.{place_of};
 ghost use Rattle.un_sites.specs.declared.sites.Spot.{Spot};
 
 use crate::call_sides::on_side;
+use crate::carried::{carried, marked_count};
 use crate::post_aparts::temps_in;
 use crate::post_twos::first_of;
 use crate::reach::{Reach, mark_at, mark_leading};
@@ -45,7 +44,7 @@ fn is_register_home(home: Option<Reg>) -> bool
 }
 
 /// Whether an operand finds its value in a register, where that is asked for.
-fn is_asked(in_register: bool, kind: &ExtKind, x: &Operand) -> bool
+pub(crate) fn is_asked(in_register: bool, kind: &ExtKind, x: &Operand) -> bool
     ensures { result ≡ is_asked in_register kind.now x.now }
 {
     !in_register || (!kind.is_delimiter() || is_register_home(x.home))
@@ -66,116 +65,6 @@ pub(crate) fn reads_value(in_register: bool, n: u32, p: &Spot<'_>) -> bool
     kind.is_mandatory() && any_reads(in_register, n, kind, p.it.operands.as_slice())
 }
 
-/// Whether one of these operations reads value `n`.
-fn any_reads_value(in_register: bool, n: u32, behind: &[Spot<'_>]) -> bool
-    ensures { result ≡ list_any (λ (p : Spot). reads_value in_register n (place_of p)) behind.now }
-{
-    behind.iter().any(|p| reads_value(in_register, n, p))
-}
-
-/// Whether one of these operations reads value `n`.
-fn is_read(in_register: bool, behind: &[Spot<'_>], n: u32) -> bool
-    ensures { result ≡ list_any (reads_value in_register n) (map place_of behind.now) }
-{
-    any_reads_value(in_register, n, behind)
-}
-
-/// Whether a value is one of these.
-fn is_among(ns: &[u32], n: u32) -> bool
-    ensures { result ≡ list_any (λ (m : ℕ). m == n) ns.now }
-{
-    ns.iter().any(|m| *m == n)
-}
-
-/// Whether a value is read by these operations, or is one of those for which a result stands.
-fn is_carried(in_register: bool, behind: &[Spot<'_>], ns: &[u32], n: u32) -> bool
-    ensures { result ≡ is_carried in_register (map place_of behind.now) ns.now n }
-{
-    is_read(in_register, behind, n) || is_among(ns, n)
-}
-
-/// The first value that operands read and that is not such.
-fn first_new(
-    in_register: bool,
-    behind: &[Spot<'_>],
-    ns: &[u32],
-    operands: &[Operand],
-) -> Option<u32>
-    ensures { result ≡ first_new (is_carried in_register (map place_of behind.now) ns.now) operands.now }
-{
-    for x in operands {
-        let n = first_of(x.alts.as_slice());
-        if !is_carried(in_register, behind, ns, n) {
-            return Some(n);
-        }
-    }
-    None
-}
-
-/// Whether some result of an operation is such.
-fn gives_carried(in_register: bool, behind: &[Spot<'_>], ns: &[u32], results: &[TempId]) -> bool
-    ensures { result ≡ list_any (λ (t : TempId). is_carried in_register (map place_of behind.now) ns.now t.0) results.now }
-{
-    results
-        .iter()
-        .any(|t| is_carried(in_register, behind, ns, t.0))
-}
-
-/// The value for which an operation's result stands, where that crosses.
-fn handed_by(in_register: bool, behind: &[Spot<'_>], ns: &[u32], p: &Spot<'_>) -> Option<u32>
-    ensures { result ≡ handed_by (is_carried in_register (map place_of behind.now) ns.now) (place_of p.now) }
-{
-    if gives_carried(in_register, behind, ns, p.it.results.as_slice()) {
-        first_new(in_register, behind, ns, p.it.operands.as_slice())
-    } else {
-        None
-    }
-}
-
-/// Adds it.
-fn hand(
-    ns: &mut Items<u32>,
-    in_register: bool,
-    behind: &[Spot<'_>],
-    p: &Spot<'_>,
-) -> Result<(), AllocError>
-    ensures { OnOk result (ns.new
-        ≡ ns.old ++ option_to_list (handed_by (is_carried in_register (map place_of behind.now) ns.old) (place_of p.now))) }
-{
-    match handed_by(in_register, behind, ns.as_slice(), p) {
-        None => Ok(()),
-        Some(n) => ns.push(n),
-    }
-}
-
-/// Those of several operations, the last one first.
-fn handed(
-    alloc: Global,
-    in_register: bool,
-    behind: &[Spot<'_>],
-    loose: &[Spot<'_>],
-) -> Result<Items<u32>, AllocError>
-    ensures { IfOk result (λ ns. ns ≡ handed in_register (map place_of behind.now) (map place_of loose.now)) }
-{
-    let mut ns = Items::new(alloc);
-    let mut j = loose.len();
-    while j > 0 {
-        j -= 1;
-        hand(&mut ns, in_register, behind, &loose[j])?;
-    }
-    Ok(ns)
-}
-
-/// How many of these values are such.
-fn carried_count(in_register: bool, behind: &[Spot<'_>], ns: &[u32], values: &[TempId]) -> usize
-    ensures { result ≡ length (filter (λ (t : TempId). is_carried in_register (map place_of behind.now) ns.now t.0) values.now) }
-{
-    values
-        .iter()
-        .filter(|t| is_carried(in_register, behind, ns, t.0))
-        .count()
-}
-
 /// How many of these values cross a call that has these operations behind it, and these neither ahead of it nor the call.
 fn crossing_count(
     alloc: Global,
@@ -187,8 +76,8 @@ fn crossing_count(
     ensures { IfOk result (λ n. n
         ≡ length (filter (is_crossing in_register (map place_of behind.now) (map place_of loose.now)) values.now)) }
 {
-    let ns = handed(alloc, in_register, behind, loose)?;
-    Ok(carried_count(in_register, behind, ns.as_slice(), values))
+    let marks = carried(alloc, in_register, behind, loose)?;
+    Ok(marked_count(marks.as_slice(), values))
 }
 
 /// Whether an operation is ahead of the call with a number, of which the marks say what leads to it.
@@ -305,30 +194,28 @@ pub(crate) fn crossing_by(
     Ok(Crossing { all, in_registers })
 }
 
-/// What crosses a call.
-pub(crate) fn crossing_of(
+/// How many values cross a call.
+pub(crate) fn crossing_all(
     alloc: Global,
     reach: Reach,
     arcs: &[Arc],
     call: &Spot<'_>,
     spots: &[Spot<'_>],
-) -> Result<Crossing, AllocError>
+) -> Result<usize, AllocError>
     requires arcs { All (IsArcWithin reach.low reach.count) arcs.now }
     requires call { IsWithin reach.low reach.count call.now.op }
-    ensures all { IfOk result (λ k. k.all ≡ length (crossing false arcs.now (map place_of spots.now) (place_of call.now))) }
-    ensures in_registers { IfOk result (λ k. k.in_registers
-        ≡ length (crossing true arcs.now (map place_of spots.now) (place_of call.now))) }
+    ensures { IfOk result (λ n. n ≡ length (crossing false arcs.now (map place_of spots.now) (place_of call.now))) }
 {
     let behind = on_side(alloc, reach, arcs, call, true, spots)?;
     let before = ahead(alloc, reach, arcs, call, spots)?;
-    let found = crossing_by(
+    let loose = loose(alloc, reach, arcs, call, spots)?;
+    let values = temps_in(alloc, before.as_slice())?;
+    let all = crossing_count(
         alloc,
-        reach,
-        arcs,
-        call,
-        spots,
-        before.as_slice(),
+        false,
         behind.as_slice(),
+        loose.as_slice(),
+        values.as_slice(),
     )?;
-    Ok(found)
+    Ok(all)
 }

@@ -5,6 +5,7 @@
 mod call_rows;
 mod call_sides;
 mod call_waits;
+mod carried;
 mod crossings;
 mod demands;
 pub mod post_aparts;

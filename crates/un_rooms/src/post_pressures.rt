@@ -10,7 +10,7 @@ ghost use Rattle.un_sites.specs.Sites.{place_of, definers_in};
 ghost use Rattle.un_sites.specs.declared.sites.Spot.{Spot};
 
 use crate::call_waits::calls_in;
-use crate::crossings::crossing_of;
+use crate::crossings::crossing_all;
 use crate::post_clobbers::arcs_at;
 use crate::reach::Reach;
 use crate::room::{block_room, spared_count};
@@ -57,8 +57,8 @@ fn post_across(
     ensures { OnOk result (props.new ≡ props.old
         ++ across_by mask arcs.now room.now (map place_of spots.now) (place_of call.now) ∷ []) }
 {
-    let crossing = crossing_of(props.alloc(), reach, arcs, call, spots)?;
-    let sure = number(crossing.all)?;
+    let crossing = crossing_all(props.alloc(), reach, arcs, call, spots)?;
+    let sure = number(crossing)?;
     let spared = number(spared_count(mask, room))?;
     let made = make_across(props.alloc(), cycle_var(call), sure, spared)?;
     props.push(made)

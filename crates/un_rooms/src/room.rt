@@ -1,14 +1,16 @@
 //! The registers and slots in which what a block defines may be.
 
-ghost use Rattle.std.specs.Prelude.{◌≡◌, IfOk, Some, length, map};
-ghost use Rattle.std.specs.List.{list_any};
+ghost use Rattle.std.specs.Prelude.{◌≡◌, ◌+◌, ◌<◌, ◌&&◌, ◌||◌, nat_le, ℕ, false, IfOk, Some, filter, length, map};
+ghost use Rattle.std.specs.List.{list_any, range_with_len};
 ghost use Rattle.un_domains.specs.Sets.{has};
+ghost use Rattle.un_isa.specs.declared.reg.TheConstants.{FIRST_SLOT, SLOTS};
+ghost use Rattle.un_rooms.specs.Marked.{is_marked};
 ghost use Rattle.un_sites.specs.Pressures.{in_domain, may_have, room_of, spared_room, block_room};
 ghost use Rattle.un_sites.specs.Sites.{place_of, definer_at, definers_in};
-ghost use Rattle.un_sites.specs.declared.sites.Site.{Site};
 
+use crate::carried::is_marked;
 use crate::post_aparts::temps_in;
-use std::alloc::Global;
+use std::alloc::{AllocError, Global};
 use un_base::memory_error::NoMemory;
 use un_domains::domain::Domain;
 use un_isa::reg::{FIRST_SLOT, SLOTS};
@@ -18,55 +20,97 @@ use un_sites::sites::{Site, Spot, sites_at};
 /// One more than the greatest number of a register or slot.
 const PLACES: u32 = FIRST_SLOT + SLOTS;
 
-/// Whether `r` is one of these values.
-fn is_listed(values: &[u32], r: u32) -> bool
-    ensures { result ≡ has values.now r }
+/// Marks the places from `lo` to `hi`.
+fn mark_range(marks: &mut [bool], lo: u32, hi: u32)
+    ensures len { length marks.new ≡ length marks.old }
+    ensures is { (r : ℕ) → r < length marks.old → is_marked marks.new r ≡ (is_marked marks.old r || (nat_le lo r && nat_le r hi)) }
 {
-    values.iter().any(|v| r == *v)
+    let end = marks.len().min(hi as usize + 1);
+    let start = end.min(lo as usize);
+    for i in start..end {
+        marks[i] = true;
+    }
 }
 
-/// Whether a variable with this domain may be `r`.
-fn in_domain(domain: &Domain, r: u32) -> bool
-    ensures { result ≡ in_domain (Some domain.now) r }
+/// Marks these places.
+fn mark_each(marks: &mut [bool], values: &[u32])
+    ensures len { length marks.new ≡ length marks.old }
+    ensures is { (r : ℕ) → r < length marks.old → is_marked marks.new r ≡ (is_marked marks.old r || has values.now r) }
+{
+    for v in values {
+        let i = *v as usize;
+        if i < marks.len() {
+            marks[i] = true;
+        }
+    }
+}
+
+/// Marks the places of a variable with this domain.
+fn mark_domain(marks: &mut [bool], domain: &Domain)
+    ensures len { length marks.new ≡ length marks.old }
+    ensures is { (r : ℕ) → r < length marks.old → is_marked marks.new r ≡ (is_marked marks.old r || in_domain (Some domain.now) r) }
 {
     match domain {
-        Domain::Range { lo, hi } => *lo <= r && r <= *hi,
-        Domain::Set(values) => is_listed(values.as_slice(), r),
+        Domain::Range { lo, hi } => mark_range(marks, *lo, *hi),
+        Domain::Set(values) => mark_each(marks, values.as_slice()),
     }
 }
 
-/// Whether what a definer gives may be in register `r`.
-fn may_have(domains: &[Domain], site: &Site<'_>, r: u32) -> bool
-    ensures { result ≡ may_have domains.now r (definer_at site.now) }
+/// Marks the places in which what a definer gives may be.
+fn mark_site(marks: &mut [bool], domains: &[Domain], site: &Site<'_>)
+    ensures len { length marks.new ≡ length marks.old }
+    ensures is { (r : ℕ) → r < length marks.old → is_marked marks.new r
+        ≡ (is_marked marks.old r || may_have domains.now r (definer_at site.now)) }
 {
     match domains.get(site.reg.0 as usize) {
-        None => false,
-        Some(domain) => in_domain(domain, r),
+        None => {}
+        Some(domain) => mark_domain(marks, domain),
     }
 }
 
-/// Whether one of these definers may give something in register `r`.
-fn any_may_have(domains: &[Domain], sites: &[Site<'_>], r: u32) -> bool
-    ensures { result ≡ list_any (λ (s : Site). may_have domains.now r (definer_at s)) sites.now }
+/// Marks the places in which something of what these definers give may be.
+fn mark_sites(marks: &mut [bool], domains: &[Domain], sites: &[Site<'_>])
+    ensures len { length marks.new ≡ length marks.old }
+    ensures is { (r : ℕ) → r < length marks.old → is_marked marks.new r
+        ≡ (is_marked marks.old r || list_any (may_have domains.now r) (definers_in sites.now)) }
 {
-    sites.iter().any(|site| may_have(domains, site, r))
+    for site in sites {
+        mark_site(marks, domains, site);
+    }
 }
 
-/// Whether something of what these definers give may be in register `r`.
-fn some_may_have(domains: &[Domain], sites: &[Site<'_>], r: u32) -> bool
-    ensures { result ≡ list_any (may_have domains.now r) (definers_in sites.now) }
+/// So many numbers of which none is marked.
+fn no_marks(alloc: Global, count: usize) -> Result<Vec<bool>, AllocError>
+    ensures len { IfOk result (λ marks. length marks.items ≡ count) }
+    ensures none { IfOk result (λ marks. (r : ℕ) → is_marked marks.items r ≡ false) }
 {
-    any_may_have(domains, sites, r)
+    let marks = vec![in alloc; false; count]?;
+    Ok(marks)
+}
+
+/// Marks of the places in which something of what these definers give may be.
+fn marks_of(alloc: Global, domains: &[Domain], sites: &[Site<'_>]) -> Result<Vec<bool>, AllocError>
+    ensures { IfOk result (λ marks. (r : ℕ) → r < FIRST_SLOT + SLOTS
+        → is_marked marks.items r ≡ list_any (may_have domains.now r) (definers_in sites.now)) }
+{
+    let mut marks = no_marks(alloc, PLACES as usize)?;
+    mark_sites(marks.as_mut_slice(), domains, sites);
+    Ok(marks)
+}
+
+/// The places that are marked, rising.
+fn marked_places(alloc: Global, marks: &[bool]) -> Result<Vec<u32>, AllocError>
+    ensures { IfOk result (λ room. room.items ≡ filter (is_marked marks.now) (range_with_len 0 (FIRST_SLOT + SLOTS))) }
+{
+    (0..PLACES).filter(|r| is_marked(marks, *r)).collect(alloc)
 }
 
 /// The registers and slots in which something of what these definers give may be, rising.
-#[tactic(auto, unfolding(un_sites::specs::Pressures::room_of))]
-fn room_of(alloc: Global, domains: &[Domain], sites: &[Site<'_>]) -> Result<Vec<u32>, NoMemory>
+fn room_of(alloc: Global, domains: &[Domain], sites: &[Site<'_>]) -> Result<Vec<u32>, AllocError>
     ensures { IfOk result (λ room. room.items ≡ room_of domains.now (definers_in sites.now)) }
 {
-    let room = (0..PLACES)
-        .filter(|r| some_may_have(domains, sites, *r))
-        .collect(alloc)?;
+    let marks = marks_of(alloc, domains, sites)?;
+    let room = marked_places(alloc, marks.as_slice())?;
     Ok(room)
 }
 

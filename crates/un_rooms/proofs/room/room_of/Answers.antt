@@ -1,0 +1,21 @@
+use Rattle.std.proofs.Common.{ℕ, zero, suc, ◌≡◌, ◌∙◌, ◌+◌, ◌<◌, Bool, cond, List, ◌∷◌, filter, refl, ap, arith}
+use Rattle.std.specs.List.{list_any, range_with_len}
+use Rattle.un_isa.specs.declared.reg.TheConstants.{FIRST_SLOT, SLOTS}
+use Rattle.un_rooms.specs.Marked.{is_marked}
+use Rattle.un_sites.specs.Pressures.{may_have, room_of}
+use Rattle.un_sites.specs.Sites.{definers_in}
+use Rattle.un_rooms.proofs.room.room_of.Goals as goal
+
+-- tests that agree on a range
+filter_range : (p q : ℕ → Bool) (a n : ℕ) → ((r : ℕ) → r < a + n → p r ≡ q r) → filter p (range_with_len a n) ≡ filter q (range_with_len a n)
+filter_range p q a zero same = refl
+filter_range p q a (suc n) same =
+    ap (λ (b : Bool). cond b (a ∷ filter p (range_with_len (a + 1) n)) (filter p (range_with_len (a + 1) n))) (same a (omega arith))
+    ∙ ap (λ (rs : List ℕ). cond (q a) (a ∷ rs) rs) (filter_range p q (a + 1) n (λ r lt. same r (omega (arith, lt))))
+
+pub returns : goal.returns
+unfolding room_of
+returns c =
+    c.in_ok-room.ensures ∙ ap (λ (ms : List Bool). filter (is_marked ms) (range_with_len 0 (FIRST_SLOT + SLOTS))) c.as_slice.ensures.value
+    ∙ filter_range (is_marked c.in_ok-marks.marks.items) (λ r. list_any (may_have c.args.domains.now r) (definers_in c.args.sites.now))
+    0 (FIRST_SLOT + SLOTS) c.in_ok-marks.ensures
