@@ -74,7 +74,7 @@ fn any_reads_value(in_register: bool, n: u32, behind: &[Spot<'_>]) -> bool
 }
 
 /// Whether one of these operations reads value `n`.
-fn is_read(in_register: bool, behind: &[Spot<'_>], n: u32) -> bool
+pub(crate) fn is_read(in_register: bool, behind: &[Spot<'_>], n: u32) -> bool
     ensures { result ≡ list_any (reads_value in_register n) (map place_of behind.now) }
 {
     any_reads_value(in_register, n, behind)
