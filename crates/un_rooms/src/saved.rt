@@ -81,11 +81,15 @@ fn reads_alone(t: TempId, x: &Operand) -> bool
 }
 
 /// Whether operands read these temporaries alone, one after another.
+#[tactic(auto, using(crate::proofs::Saving::not_alone))]
 fn read_alone(temps: &[TempId], operands: &[Operand]) -> bool
     ensures { result ≡ read_alone temps.now operands.now }
 {
     for i in 0..temps.len() {
-        if i >= operands.len() || !reads_alone(temps[i], &operands[i]) {
+        if i >= operands.len() {
+            return false;
+        }
+        if !reads_alone(temps[i], &operands[i]) {
             return false;
         }
     }
