@@ -100,7 +100,7 @@ named_below (n ∷ names) name (inl e) =
 named_below (n ∷ names) name (inr m) =
     first_or (position_or_len (λ (n : NameId). n.0 == name.0) names) (length names) (n.0 == name.0) (λ f. named_below names name m)
 
-member_contains : {A : Type 0} (xs : List A) (x : A) → Member x xs → Contains xs x
+pub member_contains : {A : Type 0} (xs : List A) (x : A) → Member x xs → Contains xs x
 member_contains xs x m = let r = position_of xs x m in (r.0, r.1, or_get xs r.0 x r.2)
   where
     or_get : {A : Type 0} (xs : List A) (k : ℕ) (x : A) → slice_get xs k ≡ Some x → slice_index_or xs k x ≡ x
@@ -133,7 +133,7 @@ in_is Enter h = absurd (cc h)
 in_is Leave h = absurd (cc h)
 
 -- the values at a block's start are the results of its first operation
-live_in_is : (ops rest : List ExtOp) (start : ExtOp) → ops ≡ start ∷ rest → start.kind ≡ In → live_in_temps ops ≡ start.results
+pub live_in_is : (ops rest : List ExtOp) (start : ExtOp) → ops ≡ start ∷ rest → start.kind ≡ In → live_in_temps ops ≡ start.results
 live_in_is ops rest start whole k = ap live_in_temps whole ∙ ap (λ (c : ExtKind). results_of_start c start.results (live_in_temps rest)) k
 
 module _ (e : Ext) (o : Options) (x : List ℕ) (given : Given e o x) where

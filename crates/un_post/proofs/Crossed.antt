@@ -110,7 +110,7 @@ module _ (f : Placed → Bool) where
           rest ∙ ap (λ ss. ss ++ filter by_definer (all_spots qs)) (sym (own_no q 0 q.op.results t))
           ∙ sym (filter-append by_definer (spots_of q) (all_spots qs))
 
-some_home : (home : Option Reg) → is_register_home home ≡ true → is_some home ≡ true
+pub some_home : (home : Option Reg) → is_register_home home ≡ true → is_some home ≡ true
 some_home None h = absurd (cc h)
 some_home (Some r) h = refl
 

@@ -1,10 +1,11 @@
 -- What a block issues fills cycles: what is ahead of a call with its Spills those up to it, what is behind it with its Reloads those from
--- it to the end, and all of it those of the block.
+-- it to the end, and all of it, with what it owes for its neighbours, those of the block.
 use Rattle.std.proofs.Common.{ℕ, ◌≡◌, ◌<◌, ◌≤◌, ◌+◌, ◌*◌, ◌-◌, Bool, true, false, List, [], ◌∷◌, ◌++◌, map, filter}
 use Rattle.std.proofs.Common.{refl, sym, ap, ◌∙◌, arith, eq-eqb}
 use Rattle.std.specs.Prelude.{Some, not, ◌&&◌, ◌==◌, slice_get, slice_index, sum_by, if◌then◌else◌}
 use Rattle.std.proofs.lemmas.List.Sums.{sum_by-cons, sum_by-append}
 use Rattle.un_base.specs.declared.ids.VarId.{VarId}
+use Rattle.un_isa.specs.declared.op.Op.{Op}
 use Rattle.un_isa.specs.declared.op.Op.TheVariants.{Call, Spill, Reload, Enter as EnterOp, Leave as LeaveOp}
 use Rattle.un_isa.specs.declared.packet_counts.Resource.{Resource}
 use Rattle.un_ir.specs.declared.extended.Ext.{Ext}
@@ -27,11 +28,14 @@ use Rattle.un_sites.specs.Crossings.{is_ahead, spills_at, reloads_at}
 use Rattle.un_sites.specs.Lengths.{cycles_by, cycles_after, cycles_in, most_of}
 use Rattle.un_sites.specs.Places.{Place}
 use Rattle.un_sites.specs.Rooms.{arcs_or, is_behind}
+use Rattle.un_sites.specs.Saved.{crowded_of, edges_between, owed_by}
 use Rattle.un_sites.specs.Shares.{own_share, spills_share, reloads_share, has_leave}
+use Rattle.un_sites.specs.declared.edges.Accesses.{Accesses}
 use Rattle.un_post.proofs.AccessRooms.{framed, distant, placed_as, late}
 use Rattle.un_post.proofs.Blocks.{blocks, region_places, region_close, in_all, stands_in}
 use Rattle.un_post.proofs.CallOrder.{ordered}
-use Rattle.un_post.proofs.Crossed.{owed_spills, owed_reloads}
+use Rattle.un_post.proofs.Crossed.{owed_spills as call_spills, owed_reloads as call_reloads}
+use Rattle.un_post.proofs.Crowded.{Accesses_by, crowded_slotted, owed_spills, owed_reloads}
 use Rattle.un_post.proofs.Facts.{Given, in_domains}
 use Rattle.un_post.proofs.Filling.{enough, greatest_is, none_of, several_more, first_of_several, takes_is, Beside, Other, beside_none}
 use Rattle.un_post.proofs.Filling.{beside_one}
@@ -333,7 +337,7 @@ module _ (e : Ext) (o : Options) (x : List ℕ) (given : Given e o x)
           (spills_beside 1 (cycle c) others not_others (omega arith) spills
           (several_more e o x solved (λ p. SpilledBy e o x solved c p × (r.block ≡ 0)) (Spilling 1 (cycle c) others not_others) spills
           spilling
-          (owed_spills e o x given schedule r mr c mc call)))
+          (call_spills e o x given schedule r mr c mc call)))
 
       ahead_there : (q : Placed) → Member q (region_placed r) → is_ahead arcs (place_of c) (place_of q) ≡ true → is_issued q.op.kind ≡ true
           → There 1 (cycle c) others q × (others q ≡ true)
@@ -399,7 +403,7 @@ module _ (e : Ext) (o : Options) (x : List ℕ) (given : Given e o x)
           let own = end_own in
           reloads_beside (cycle c + 1) left all_own (λ q h. h) (omega (arith, last, own)) reloads
           (several_more e o x solved (ReloadedAfter e o x solved c) (Reloading (cycle c + 1) left all_own (λ q h. h)) reloads reloading
-          (owed_reloads e o x given schedule r mr c mc call))
+          (call_reloads e o x given schedule r mr c mc call))
 
       behind_there : (q : Placed) → Member q (region_placed r) → is_behind arcs (place_of c) (place_of q) ≡ true
           → is_issued q.op.kind ≡ true
@@ -482,11 +486,52 @@ module _ (e : Ext) (o : Options) (x : List ℕ) (given : Given e o x)
               there = (omega (arith, first), omega (arith, before, closes, first));
             }
 
-      -- of the calls the one with most of them has so many
-      most_in : (P : ℕ → Type 0) (f : Place → ℕ) → P 0
-          → ((c : Placed) → Member c (region_placed r) → is_call_kind c.op.kind ≡ true → P (f (place_of c))) → P (most_of f ps)
-      most_in P f none of_call =
-          greatest_is P 0 (map (λ (p : Place). if is_call_kind p.it.kind then f p else 0) ps) none
+      -- ---- what it owes for its neighbours
+
+      abbrev owed : Accesses
+      owed = owed_by (crowded_of (model_of e o)) (edges_between e.blocks) r.block r.owner ps
+
+      within_block : (op : Op) (p : Placed) → Accesses_by e o x given schedule r op p → There 1 whole mandatory p
+      within_block op p a =
+          let mp = stands_in e o x r p mr a.member a.block in
+          let within = placed_as e o x given schedule (issue_at x p) op (issue_member p a.member) a.instr in
+          let first = within.0.0 in
+          let before = within.0.1 in
+          let closes = end_is p mp in
+          (omega (arith, first), omega (arith, before, closes, first))
+
+      spills_owed : SpillsIn (let w = owed in w.spills)
+      spills_owed = several_more e o x solved (λ p. Accesses_by e o x given schedule r Spill p × (r.block ≡ 0))
+          (Spilling 1 whole mandatory (λ q h. h)) (let w = owed in w.spills)
+          (λ p h. (let a = h.0 in record {
+            member = a.member;
+            block = a.block;
+            entry = h.1;
+            copy = a.copy;
+            instr = a.instr;
+            there = within_block Spill p a;
+          }))
+          (owed_spills e o x given schedule (crowded_of (model_of e o)) (crowded_slotted e o x given schedule) r mr)
+
+      reloads_owed : ReloadsIn (let w = owed in w.reloads)
+      reloads_owed = several_more e o x solved (Accesses_by e o x given schedule r Reload) (Reloading 1 whole mandatory (λ q h. h))
+          (let w = owed in w.reloads)
+          (λ p a. record {
+            member = a.member;
+            block = a.block;
+            copy = a.copy;
+            instr = a.instr;
+            there = within_block Reload p a;
+          })
+          (owed_reloads e o x given schedule (crowded_of (model_of e o)) (crowded_slotted e o x given schedule) r mr)
+
+      -- ---- all that it issues
+
+      -- of the calls the one with most of them has so many, where so many are owed
+      most_in : (P : ℕ → Type 0) (owed : ℕ) (f : Place → ℕ) → P owed → P 0
+          → ((c : Placed) → Member c (region_placed r) → is_call_kind c.op.kind ≡ true → P (f (place_of c))) → P (most_of owed f ps)
+      most_in P owed f owes none of_call =
+          greatest_is P owed (map (λ (p : Place). if is_call_kind p.it.kind then f p else 0) ps) owes
           (each_map P (λ (p : Place). if is_call_kind p.it.kind then f p else 0) ps
           (each_map (λ (p : Place). P (if is_call_kind p.it.kind then f p else 0)) place_of (region_placed r)
           (each_of (λ (q : Placed). P (if is_call_kind q.op.kind then f (place_of q) else 0)) (region_placed r) (λ q m.
@@ -497,20 +542,22 @@ module _ (e : Ext) (o : Options) (x : List ℕ) (given : Given e o x)
           by q m false h = none
 
       abbrev spills_most : ℕ
-      spills_most = most_of (spills_at e.table (r.block == 0) arcs ps) ps
+      spills_most = let w = owed in most_of w.spills (spills_at e.table (r.block == 0) arcs ps) ps
 
       abbrev reloads_most : ℕ
-      reloads_most = most_of (reloads_at e.table arcs ps) ps
+      reloads_most = let w = owed in most_of w.reloads (reloads_at e.table arcs ps) ps
 
       spills_in : SpillsIn spills_most
-      spills_in = most_in SpillsIn (spills_at e.table (r.block == 0) arcs ps) (none_of e o x solved (Spilling 1 whole mandatory (λ q h. h)))
+      spills_in = most_in SpillsIn (let w = owed in w.spills) (spills_at e.table (r.block == 0) arcs ps) spills_owed
+          (none_of e o x solved (Spilling 1 whole mandatory (λ q h. h)))
           (λ c mc call. several_more e o x solved (λ p. SpilledBy e o x solved c p × (r.block ≡ 0)) (Spilling 1 whole mandatory (λ q h. h))
-          (spills_at e.table (r.block == 0) arcs ps (place_of c)) (spilling_in c mc call) (owed_spills e o x given schedule r mr c mc call))
+          (spills_at e.table (r.block == 0) arcs ps (place_of c)) (spilling_in c mc call) (call_spills e o x given schedule r mr c mc call))
 
       reloads_in : ReloadsIn reloads_most
-      reloads_in = most_in ReloadsIn (reloads_at e.table arcs ps) (none_of e o x solved (Reloading 1 whole mandatory (λ q h. h)))
+      reloads_in = most_in ReloadsIn (let w = owed in w.reloads) (reloads_at e.table arcs ps) reloads_owed
+          (none_of e o x solved (Reloading 1 whole mandatory (λ q h. h)))
           (λ c mc call. several_more e o x solved (ReloadedAfter e o x solved c) (Reloading 1 whole mandatory (λ q h. h))
-          (reloads_at e.table arcs ps (place_of c)) (reloading_in c mc call) (owed_reloads e o x given schedule r mr c mc call))
+          (reloads_at e.table arcs ps (place_of c)) (reloading_in c mc call) (call_reloads e o x given schedule r mr c mc call))
 
       abbrev need : Resource → ℕ
       need resource = spills_share e.table spills_most resource + reloads_share e.table (has_leave ps) reloads_most resource
@@ -523,7 +570,7 @@ module _ (e : Ext) (o : Options) (x : List ℕ) (given : Given e o x)
           (spills_beside 1 whole mandatory (λ q h. h) (omega arith) spills_most spills_in)
           (reloads_beside 1 whole mandatory (λ q h. h) (omega (arith, some)) reloads_most reloads_in)
 
-      pub end_filled : cycles_in e.table (r.block == 0) arcs ps + 1 ≤ close
+      pub end_filled : cycles_in e.table (r.block == 0) owed arcs ps + 1 ≤ close
       end_filled =
           let some = some_end in
           let le = enough e.table ps (has_leave ps) spills_most reloads_most whole (λ resource.

@@ -44,6 +44,8 @@ use Rattle.un_sites.specs.Lengths.{length_by}
 use Rattle.un_sites.specs.Places.{Place, act_by, time_by, places_of}
 use Rattle.un_sites.specs.Postings.{issue_by, issues_in, with_kind}
 use Rattle.un_sites.specs.Rooms.{arcs_or}
+use Rattle.un_sites.specs.Saved.{crowded_of, edges_between, owed_by}
+use Rattle.un_sites.specs.declared.edges.Accesses.{Accesses}
 use Rattle.un_post.proofs.Blocks.{blocks, region_places, region_vars, region_close, places_in, regions_met, in_all}
 use Rattle.un_post.proofs.CallBefores.{block_met}
 use Rattle.un_post.proofs.CallOrder.{kept}
@@ -182,8 +184,11 @@ module _ (e : Ext) (o : Options) (x : List ℕ) (given : Given e o x)
 
     -- ---- the operations of a block
 
+    abbrev owed : Accesses
+    owed = owed_by (crowded_of (model_of e o)) (edges_between e.blocks) r.block r.owner (region_places r)
+
     abbrev made : Place → Task
-    made = task_of e.table (r.block == 0) arcs (region_places r)
+    made = task_of e.table (r.block == 0) owed arcs (region_places r)
 
     abbrev task : Placed → Task
     task q = made (place_of q)
@@ -394,7 +399,7 @@ module _ (e : Ext) (o : Options) (x : List ℕ) (given : Given e o x)
     -- ---- its length
 
     abbrev ops : List Task
-    ops = tasks_in e.table (r.block == 0) arcs (region_places r)
+    ops = tasks_in e.table (r.block == 0) owed arcs (region_places r)
 
     abbrev IsEnded : Task → Type 0
     IsEnded t = cycle_of x t + t.tail ≤ slice_index x close.0
@@ -415,7 +420,7 @@ module _ (e : Ext) (o : Options) (x : List ℕ) (given : Given e o x)
       where
         by : (b c : Bool) → is_call_kind q.op.kind ≡ b → is_out q.op.kind ≡ c
             → (if b then call_head e.table (r.block == 0) arcs (region_places r) (place_of q)
-            else (if c then cycles_in e.table (r.block == 0) arcs (region_places r) + 1 else 0)) ≤ cycle_of x (task q)
+            else (if c then cycles_in e.table (r.block == 0) owed arcs (region_places r) + 1 else 0)) ≤ cycle_of x (task q)
         by true c k out =
             let le = heads e o x given schedule r mr q m k in
             let filled = heads_filled e o x given schedule r mr q m k in
@@ -468,7 +473,8 @@ module _ (e : Ext) (o : Options) (x : List ℕ) (given : Given e o x)
 
     length_met : Met x (length_in (model_of e o) r.block r.number r.owner (region_vars r))
     length_met = let owner = r.owner in
-        subst (λ (ps : List Place). Met x (length_by e.table (r.block == 0) arcs (known_befores m r.block ps) close owner.horizon ps ∷ []))
+        subst (λ (ps : List Place). Met x (length_by e.table (r.block == 0) (owed_by (crowded_of m) (edges_between e.blocks) r.block owner ps)
+        arcs (known_befores m r.block ps) close owner.horizon ps ∷ []))
         (sym (places_in r))
         (fits_holds ops (precedences_by ops (known_befores m r.block (region_places r))) close x fits, tt)
 

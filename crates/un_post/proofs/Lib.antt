@@ -8,6 +8,7 @@ pub mod CallOrder
 pub mod Choices
 pub mod Congruences
 pub mod Crossed
+pub mod Crowded
 pub mod Cycles
 pub mod Ends
 pub mod Exact
@@ -45,6 +46,7 @@ pub mod Ready
 pub mod Regions
 pub mod RegisterBounds
 pub mod Relaxed
+pub mod SavedLists
 pub mod Solved
 pub mod SpaceSets
 pub mod Spaces

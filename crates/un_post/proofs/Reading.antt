@@ -48,6 +48,7 @@ use Rattle.un_ir.specs.Kinds.{is_call_kind, issues_kind}
 use Rattle.un_sites.specs.Postings.{single_use, uses_of, leave_of, in_entry}
 use Rattle.un_sites.specs.Rooms.{user_if, operand_users, place_users, users_of, temp_by, temp_at, temps_in, is_behind, call_at, calls_but}
 use Rattle.un_sites.specs.Rooms.{spared_at, item_of, each_two, operand_side, two_by, one_value, two_at, twos_in}
+use Rattle.un_sites.specs.declared.edges.Accesses.{Accesses}
 use Rattle.un_kinds.specs.Scopes.{vars_of, vars_in, own_var, alt_vars, end_var, op_vars, use_vars, leave_vars, rectangle_vars, clobber_vars}
 use Rattle.un_kinds.specs.Scopes.{item_vars, side_vars, task_vars}
 use Rattle.un_post.proofs.Meeting.{each_places, joined_each}
@@ -574,12 +575,13 @@ module _ (n : ℕ) (pos : 0 < n) where
     var_known (Const k) h = pos
     var_known (Var v) h = h.0
 
-    pub length_are : (t : Table) (is_entry : Bool) (arcs : List Arc) (befores : List Constraint) (end : VarId) (horizon : ℕ)
-        (ps : List Place) → end.0 < n → horizon ≤ most → Each PlaceIn ps → IsSound n most (length_by t is_entry arcs befores end horizon ps)
-    length_are t is_entry arcs befores end horizon ps lt le h =
+    pub length_are : (t : Table) (is_entry : Bool) (owed : Accesses) (arcs : List Arc) (befores : List Constraint) (end : VarId)
+        (horizon : ℕ) (ps : List Place) → end.0 < n → horizon ≤ most → Each PlaceIn ps
+        → IsSound n most (length_by t is_entry owed arcs befores end horizon ps)
+    length_are t is_entry owed arcs befores end horizon ps lt le h =
         let found = with_kind is_task ps in
-        let ops = tasks_in t is_entry arcs ps in
-        let made = task_of t is_entry arcs ps in
+        let ops = tasks_in t is_entry owed arcs ps in
+        let made = task_of t is_entry owed arcs ps in
         record {
           within = two_in (vars_in task_vars ops) (own_var end)
               (each_in task_vars ops (each_map (λ (k : Task). Within (task_vars k)) made found

@@ -55,6 +55,7 @@ use Rattle.un_sites.specs.Pressures.{block_room, pressure_in, pressures_of}
 use Rattle.un_post.specs.Posts.{largest_horizon}
 use Rattle.un_sites.specs.Rooms.{apart_in, aparts_of, spared_in, spared_at, arcs_or, clobbers_of, packets_in, packets_of, twos_in, twos_of}
 use Rattle.un_sites.specs.Rooms.{rooms_of, temps_in}
+use Rattle.un_sites.specs.Saved.{crowded_of, edges_between, owed_by}
 use Rattle.un_kinds.specs.Scopes.{leave_vars}
 use Rattle.un_post.proofs.Blocks.{blocks, in_all, region_vars, places_in}
 use Rattle.un_post.proofs.Congruences.{in_is}
@@ -404,8 +405,9 @@ module _ (e : Ext) (o : Options) (extended : IsExtended e) where
       let owner = r.owner in
       let vars = region_vars r in
       let le = most_of 0 (map own_horizon e.blocks) owner.horizon (member_map own_horizon e.blocks owner (owner_member r mr)) in (
-        length_are n pos most e.table (r.block == 0) (arcs_or (slice_get m.arcs r.block)) (known_befores m r.block (places_at r)) vars.end
-            owner.horizon (places_at r) (end_known r mr) le (block_known r mr),
+        length_are n pos most e.table (r.block == 0)
+            (owed_by (crowded_of m) (edges_between e.blocks) r.block r.owner (places_at r)) (arcs_or (slice_get m.arcs r.block))
+            (known_befores m r.block (places_at r)) vars.end owner.horizon (places_at r) (end_known r mr) le (block_known r mr),
         tt,
       ))
 

@@ -3,6 +3,7 @@ pub mod Gathering
 pub mod Greatest
 pub mod Marking
 pub mod Pairing
+pub mod Saving
 pub mod Seeing
 pub mod Spares
 pub mod Sparing

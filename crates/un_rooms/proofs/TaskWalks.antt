@@ -18,6 +18,7 @@ use Rattle.un_sites.specs.Shares.{has_leave, cycles_with}
 use Rattle.un_sites.specs.Places.{Place}
 use Rattle.un_sites.specs.Postings.{with_kind}
 use Rattle.un_sites.specs.Sites.{place_of}
+use Rattle.un_sites.specs.declared.edges.Accesses.{Accesses}
 use Rattle.un_sites.specs.declared.sites.Spot.{Spot}
 
 module _ (f : Place → Task) (i : ℕ) (spots : List Spot) (p : Spot) (ops next whole : List Task) where
@@ -79,24 +80,26 @@ head_is : (b c : Bool) (n m : ℕ) → (if b then (if b then n else 0) else (if 
 head_is true c n m = refl
 head_is false c n m = refl
 
-module _ (t : Table) (is_entry : Bool) (arcs : List Arc) (ps : List Place) where
+module _ (t : Table) (is_entry : Bool) (owed : Accesses) (arcs : List Arc) (ps : List Place) where
   abbrev all : List Demand
   all = map (demand_of t is_entry arcs ps) ps
 
-  end_is : end_by t ps all ≡ cycles_in t is_entry arcs ps + 1
+  end_is : end_by t owed ps all ≡ cycles_in t is_entry owed arcs ps + 1
   end_is =
-      ap (λ (ns : List ℕ). cycles_with t ps (has_leave ps) (fold max 0 ns) (fold max 0 (map (λ (d : Demand). d.asked.reloads) all)) + 1)
+      ap (λ (ns : List ℕ). cycles_with t ps (has_leave ps) (fold max owed.spills ns)
+      (fold max owed.reloads (map (λ (d : Demand). d.asked.reloads) all)) + 1)
       (mapped_twice (λ (d : Demand). d.asked.spills) (demand_of t is_entry arcs ps) ps)
-      ∙ ap (λ (ns : List ℕ). cycles_with t ps (has_leave ps) (most_of (spills_at t is_entry arcs ps) ps) (fold max 0 ns) + 1)
+      ∙ ap (λ (ns : List ℕ). cycles_with t ps (has_leave ps) (most_of owed.spills (spills_at t is_entry arcs ps) ps)
+      (fold max owed.reloads ns) + 1)
       (mapped_twice (λ (d : Demand). d.asked.reloads) (demand_of t is_entry arcs ps) ps)
 
-  pub task_is : (p : Place) (end : ℕ) (demands : List Demand) (d : Demand) → demands ≡ all → end ≡ end_by t ps demands
-      → d ≡ demand_of t is_entry arcs ps p → task_by t end p d ≡ task_of t is_entry arcs ps p
+  pub task_is : (p : Place) (end : ℕ) (demands : List Demand) (d : Demand) → demands ≡ all → end ≡ end_by t owed ps demands
+      → d ≡ demand_of t is_entry arcs ps p → task_by t end p d ≡ task_of t is_entry owed arcs ps p
   task_is p end demands d are is made =
       ap (task_by t end p) made
-      ∙ ap (λ (n : ℕ). task_by t n p (demand_of t is_entry arcs ps p)) (is ∙ ap (end_by t ps) are ∙ end_is)
+      ∙ ap (λ (n : ℕ). task_by t n p (demand_of t is_entry arcs ps p)) (is ∙ ap (end_by t owed ps) are ∙ end_is)
       ∙ ap (task_with t p (tail_in t arcs ps p)) (head_is (is_call_kind p.it.kind) (is_out p.it.kind) (call_head t is_entry arcs ps p)
-      (cycles_in t is_entry arcs ps + 1))
+      (cycles_in t is_entry owed arcs ps + 1))
 
 -- the demand at a place is that of the operation there
 pub demand_at : (f : Place → Demand) (i : ℕ) (spots : List Spot) (p : Spot) (demands : List Demand) (d : Demand)

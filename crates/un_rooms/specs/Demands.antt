@@ -12,6 +12,7 @@ use Rattle.un_sites.specs.Crossings.{spills_at, reloads_at}
 use Rattle.un_sites.specs.Lengths.{call_head, tail_in, var_in}
 use Rattle.un_sites.specs.Places.{Place, time_of}
 use Rattle.un_sites.specs.Shares.{has_leave, cycles_with}
+use Rattle.un_sites.specs.declared.edges.Accesses.{Accesses}
 
 -- what is asked for a call alone
 abbrev pub of_call : Place → ℕ → ℕ
@@ -24,11 +25,11 @@ demand_of t is_entry arcs ps p = record {
   asked = record { spills = of_call p (spills_at t is_entry arcs ps p); reloads = of_call p (reloads_at t arcs ps p) };
 }
 
--- the head of the end of a block of which the operations ask for this
-abbrev pub end_by : Table → List Place → List Demand → ℕ
-end_by t ps demands =
-    cycles_with t ps (has_leave ps) (fold max 0 (map (λ (d : Demand). d.asked.spills) demands))
-    (fold max 0 (map (λ (d : Demand). d.asked.reloads) demands)) + 1
+-- the head of the end of a block that owes so much and of which the operations ask for this
+abbrev pub end_by : Table → Accesses → List Place → List Demand → ℕ
+end_by t owed ps demands =
+    cycles_with t ps (has_leave ps) (fold max owed.spills (map (λ (d : Demand). d.asked.spills) demands))
+    (fold max owed.reloads (map (λ (d : Demand). d.asked.reloads) demands)) + 1
 
 -- an operation as what takes a place before the end, with these margins
 abbrev pub task_with : Table → Place → ℕ → ℕ → Task

@@ -65,6 +65,20 @@ pub(crate) fn reads_value(in_register: bool, n: u32, p: &Spot<'_>) -> bool
     kind.is_mandatory() && any_reads(in_register, n, kind, p.it.operands.as_slice())
 }
 
+/// Whether one of these operations reads value `n`.
+fn any_reads_value(in_register: bool, n: u32, behind: &[Spot<'_>]) -> bool
+    ensures { result ≡ list_any (λ (p : Spot). reads_value in_register n (place_of p)) behind.now }
+{
+    behind.iter().any(|p| reads_value(in_register, n, p))
+}
+
+/// Whether one of these operations reads value `n`.
+pub(crate) fn is_read(in_register: bool, behind: &[Spot<'_>], n: u32) -> bool
+    ensures { result ≡ list_any (reads_value in_register n) (map place_of behind.now) }
+{
+    any_reads_value(in_register, n, behind)
+}
+
 /// How many of these values cross a call that has these operations behind it, and these neither ahead of it nor the call.
 fn crossing_count(
     alloc: Global,

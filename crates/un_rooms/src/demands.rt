@@ -17,7 +17,7 @@ ghost use Rattle.un_sites.specs.declared.sites.Spot.{Spot};
 use crate::call_sides::on_side;
 use crate::crossings::{Crossing, ahead, crossing_by};
 use crate::reach::Reach;
-use crate::shares::{Accesses, cycles_with, has_leave};
+use crate::shares::{cycles_with, has_leave};
 use std::alloc::Global;
 use un_base::memory_error::NoMemory;
 use un_base::numbers::{later, number};
@@ -27,6 +27,7 @@ use un_isa::reg_set::callee_saved;
 use un_isa::table::{Table, latency};
 use un_lists::items::Items;
 use un_model::model::Arc;
+use un_sites::edges::Accesses;
 use un_sites::sites::Spot;
 
 /// A cycle from which on an operation issues and how long before its block's end, at least, and what it asks for beside it.
@@ -202,13 +203,13 @@ pub(crate) fn demands_in(
     Ok(demands)
 }
 
-/// The most Spills that one of them asks for, and the most Reloads.
-pub(crate) fn most(demands: &[Demand]) -> Accesses
-    ensures spills { result.spills ≡ fold max 0 (map (λ (d : Demand). d.asked.spills) demands.now) }
-    ensures reloads { result.reloads ≡ fold max 0 (map (λ (d : Demand). d.asked.reloads) demands.now) }
+/// The most Spills that are owed or that one of them asks for, and the most Reloads.
+pub(crate) fn most(owed: Accesses, demands: &[Demand]) -> Accesses
+    ensures spills { result.spills ≡ fold max owed.spills (map (λ (d : Demand). d.asked.spills) demands.now) }
+    ensures reloads { result.reloads ≡ fold max owed.reloads (map (λ (d : Demand). d.asked.reloads) demands.now) }
 {
-    let mut spills = 0;
-    let mut reloads = 0;
+    let mut spills = owed.spills;
+    let mut reloads = owed.reloads;
     for d in demands {
         spills = spills.max(d.asked.spills);
         reloads = reloads.max(d.asked.reloads);

@@ -8,9 +8,11 @@ ghost use Rattle.un_sites.specs.Befores.{arc_before, befores_in, place_with, kno
 ghost use Rattle.un_sites.specs.Lengths.{length_by};
 ghost use Rattle.un_sites.specs.Places.{places_of, time_of};
 ghost use Rattle.un_sites.specs.Rooms.{arcs_or};
+ghost use Rattle.un_sites.specs.Saved.{edges_between, crowded_of};
 ghost use Rattle.un_sites.specs.Sites.{place_of};
 
 use crate::call_waits::add_call_waits;
+use crate::crowds::{Crowds, crowds_of, owed_by};
 use crate::post_clobbers::arcs_at;
 use crate::tasks::{precedences_by, tasks_in};
 use crate::wait::Wait;
@@ -26,6 +28,7 @@ use un_length::block::Block;
 use un_lists::items::Items;
 use un_model::model::{Arc, BlockVars, Model};
 use un_prop::act::At;
+use un_sites::edges::Accesses;
 use un_sites::sites::Spot;
 use un_sites::tables::add_block;
 
@@ -77,11 +80,12 @@ fn known_waits(
     Ok(waits)
 }
 
-/// A block's operations with the order among them.
+/// The operations of a block that owes so much, with the order among them.
 fn block_by(
     alloc: Global,
     t: &Table,
     is_entry: bool,
+    owed: Accesses,
     known: &[Arc],
     waits: &[Wait],
     end: VarId,
@@ -89,9 +93,9 @@ fn block_by(
     spots: &[Spot<'_>],
 ) -> Result<Block, NoMemory>
     ensures { IfOk result (λ b. constraint.Length b.ops b.arcs b.end b.horizon
-        ≡ length_by t.now is_entry known.now (befores_by waits.now) end horizon (map place_of spots.now)) }
+        ≡ length_by t.now is_entry owed known.now (befores_by waits.now) end horizon (map place_of spots.now)) }
 {
-    let ops = tasks_in(alloc, t, is_entry, known, spots)?;
+    let ops = tasks_in(alloc, t, is_entry, owed, known, spots)?;
     let arcs = precedences_by(alloc, ops.as_slice(), waits)?;
     Ok(Block {
         ops,
@@ -101,18 +105,19 @@ fn block_by(
     })
 }
 
-/// The operations of block `b` with the order that is known of them.
+/// The operations of block `b`, which owes so much, with the order that is known of them.
 fn known_block(
     alloc: Global,
     m: &Model,
     all: &[Spot<'_>],
     b: u32,
+    owed: Accesses,
     end: VarId,
     horizon: u32,
     spots: &[Spot<'_>],
 ) -> Result<Block, NoMemory>
     requires { map place_of all.now ≡ places_of m.now }
-    ensures { IfOk result (λ k. constraint.Length k.ops k.arcs k.end k.horizon ≡ length_by m.now.ext.table (b == 0)
+    ensures { IfOk result (λ k. constraint.Length k.ops k.arcs k.end k.horizon ≡ length_by m.now.ext.table (b == 0) owed
         (arcs_or (slice_get m.now.arcs b)) (known_befores m.now b (map place_of spots.now)) end horizon (map place_of spots.now)) }
 {
     let waits = known_waits(alloc, m, all, b, spots)?;
@@ -121,6 +126,7 @@ fn known_block(
         alloc,
         &m.ext.table,
         b == 0,
+        owed,
         arcs,
         waits.as_slice(),
         end,
@@ -134,18 +140,31 @@ fn known_block(
 fn block_at(
     alloc: Global,
     m: &Model,
+    crowds: &Crowds,
     all: &[Spot<'_>],
     b: u32,
     first: u32,
     block: &ExtBlock,
     vars: &BlockVars,
 ) -> Result<Block, NoMemory>
-    requires { map place_of all.now ≡ places_of m.now }
+    requires all { map place_of all.now ≡ places_of m.now }
+    requires edges { crowds.now.edges ≡ edges_between m.now.ext.blocks }
+    requires crowded { crowds.now.crowded ≡ crowded_of m.now }
     ensures { IfOk result (λ k. constraint.Length k.ops k.arcs k.end k.horizon ∷ [] ≡ length_in m.now b first block.now vars.now) }
 {
     let mut spots = Items::new(alloc);
     add_block(&mut spots, b, first, block, vars)?;
-    let made = known_block(alloc, m, all, b, vars.end, block.horizon, spots.as_slice())?;
+    let owed = owed_by(crowds, b, block, spots.as_slice());
+    let made = known_block(
+        alloc,
+        m,
+        all,
+        b,
+        owed,
+        vars.end,
+        block.horizon,
+        spots.as_slice(),
+    )?;
     Ok(made)
 }
 
@@ -153,16 +172,19 @@ fn block_at(
 fn post_block(
     props: &mut Props,
     m: &Model,
+    crowds: &Crowds,
     all: &[Spot<'_>],
     b: u32,
     first: u32,
     block: &ExtBlock,
     vars: &BlockVars,
 ) -> Result<(), NoMemory>
-    requires { map place_of all.now ≡ places_of m.now }
+    requires all { map place_of all.now ≡ places_of m.now }
+    requires edges { crowds.now.edges ≡ edges_between m.now.ext.blocks }
+    requires crowded { crowds.now.crowded ≡ crowded_of m.now }
     ensures { OnOk result (props.new ≡ props.old ++ length_in m.now b first block.now vars.now) }
 {
-    let known = block_at(props.alloc(), m, all, b, first, block, vars)?;
+    let known = block_at(props.alloc(), m, crowds, all, b, first, block, vars)?;
     let made = make_length(props.alloc(), known)?;
     props.push(made)
 }
@@ -172,11 +194,12 @@ pub fn post_lengths(props: &mut Props, m: &Model, spots: &[Spot<'_>]) -> Result<
     requires { map place_of spots.now ≡ places_of m.now }
     ensures { OnOk result (props.new ≡ props.old ++ lengths_of m.now) }
 {
+    let crowds = crowds_of(props.alloc(), m)?;
     let mut n = 0;
     for k in 0..m.ext.blocks.len().min(m.blocks.len()) {
         let b = number(k)?;
         let block = m.ext.blocks.get(k);
-        post_block(props, m, spots, b, n, block, m.blocks.get(k))?;
+        post_block(props, m, &crowds, spots, b, n, block, m.blocks.get(k))?;
         n = advance(n, block.ops.len())?;
     }
     Ok(())

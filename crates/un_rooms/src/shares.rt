@@ -14,14 +14,8 @@ use un_isa::op::Op;
 use un_isa::packet_counts::{Resource, places};
 use un_isa::table::Table;
 use un_model::instructions::{instruction, share};
+use un_sites::edges::Accesses;
 use un_sites::sites::Spot;
-
-/// How many Spills and Reloads there are.
-#[derive(Clone, Copy)]
-pub(crate) struct Accesses {
-    pub(crate) spills: u32,
-    pub(crate) reloads: u32,
-}
 
 /// Whether one of these operations is a Leave.
 fn any_leave(spots: &[Spot<'_>]) -> bool

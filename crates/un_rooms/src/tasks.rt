@@ -24,6 +24,7 @@ use un_lists::items::Items;
 use un_model::instructions::{instruction, needs};
 use un_model::model::Arc;
 use un_prop::act::At;
+use un_sites::edges::Accesses;
 use un_sites::sites::Spot;
 
 /// The variable of a time; a number has none.
@@ -90,27 +91,33 @@ fn add_task(
     Ok(())
 }
 
-/// The first cycle of the end of a block whose operations ask for this.
-fn end_of(t: &Table, spots: &[Spot<'_>], demands: &[Demand]) -> Result<u32, NoMemory>
-    ensures { IfOk result (λ end. end ≡ end_by t.now (map place_of spots.now) demands.now) }
+/// The first cycle of the end of a block that owes so much and whose operations ask for this.
+fn end_of(
+    t: &Table,
+    owed: Accesses,
+    spots: &[Spot<'_>],
+    demands: &[Demand],
+) -> Result<u32, NoMemory>
+    ensures { IfOk result (λ end. end ≡ end_by t.now owed (map place_of spots.now) demands.now) }
 {
-    let cycles = cycles_with(t, spots, has_leave(spots), most(demands))?;
+    let cycles = cycles_with(t, spots, has_leave(spots), most(owed, demands))?;
     later(cycles, 1)
 }
 
-/// Those of a block's operations that every solution issues, and its end.
+/// Those of a block's operations that every solution issues, and its end, of a block that owes so much.
 pub(crate) fn tasks_in(
     alloc: Global,
     t: &Table,
     is_entry: bool,
+    owed: Accesses,
     arcs: &[Arc],
     spots: &[Spot<'_>],
 ) -> Result<Items<Task>, NoMemory>
-    ensures { IfOk result (λ ops. ops ≡ tasks_in t.now is_entry arcs.now (map place_of spots.now)) }
+    ensures { IfOk result (λ ops. ops ≡ tasks_in t.now is_entry owed arcs.now (map place_of spots.now)) }
 {
     let reach = reach_of(spots, arcs);
     let demands = demands_in(alloc, t, is_entry, reach, arcs, spots)?;
-    let end = end_of(t, spots, demands.as_slice())?;
+    let end = end_of(t, owed, spots, demands.as_slice())?;
     let mut ops = Items::new(alloc);
     for i in 0..spots.len() {
         add_task(&mut ops, t, end, &spots[i], *demands.get(i))?;

@@ -13,6 +13,8 @@ use Rattle.un_sites.specs.Places.{Place, no_place, time_of, block_places, places
 use Rattle.un_sites.specs.Postings.{postings_of}
 use Rattle.un_sites.specs.Pressures.{pressures_of}
 use Rattle.un_sites.specs.Rooms.{arcs_or, rooms_of}
+use Rattle.un_sites.specs.Saved.{crowded_of, edges_between, owed_by}
+use Rattle.un_sites.specs.declared.edges.Accesses.{Accesses}
 
 -- ---- arcs
 
@@ -47,7 +49,8 @@ abbrev pub length_in : Model → ℕ → ℕ → ExtBlock → BlockVars → List
 length_in m b n block vars =
     let ps : List Place = block_places b n block vars in
     let arcs : List Arc = arcs_or (slice_get m.arcs b) in
-    length_by m.ext.table (b == 0) arcs (known_befores m b ps) vars.end block.horizon ps ∷ []
+    let owed : Accesses = owed_by (crowded_of m) (edges_between m.ext.blocks) b block ps in
+    length_by m.ext.table (b == 0) owed arcs (known_befores m b ps) vars.end block.horizon ps ∷ []
 
 -- one block after another
 abbrev pub lengths_of : Model → List Constraint

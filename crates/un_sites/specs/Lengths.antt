@@ -25,6 +25,7 @@ use Rattle.un_sites.specs.Places.{Place, time_of}
 use Rattle.un_sites.specs.Postings.{with_kind}
 use Rattle.un_sites.specs.Rooms.{is_behind}
 use Rattle.un_sites.specs.Shares.{has_leave, cycles_with}
+use Rattle.un_sites.specs.declared.edges.Accesses.{Accesses}
 
 -- ---- what a block issues
 
@@ -59,14 +60,15 @@ cycles_by t is_entry arcs ps call =
 abbrev pub cycles_after : Table → List Arc → List Place → Place → ℕ
 cycles_after t arcs ps call = cycles_with t (filter (is_behind arcs call) ps) (has_leave ps) 0 (reloads_at t arcs ps call)
 
--- the greatest of what is asked for the calls among these
-abbrev pub most_of : (Place → ℕ) → List Place → ℕ
-most_of f ps = fold max 0 (map (λ (p : Place). if is_call_kind p.it.kind then f p else 0) ps)
+-- the greatest of what is owed and what is asked for the calls among these
+abbrev pub most_of : ℕ → (Place → ℕ) → List Place → ℕ
+most_of owed f ps = fold max owed (map (λ (p : Place). if is_call_kind p.it.kind then f p else 0) ps)
 
--- All that a block issues is before its end, with the Spills of the call that has most and the Reloads of the call that has most.
-abbrev pub cycles_in : Table → Bool → List Arc → List Place → ℕ
-cycles_in t is_entry arcs ps =
-    cycles_with t ps (has_leave ps) (most_of (spills_at t is_entry arcs ps) ps) (most_of (reloads_at t arcs ps) ps)
+-- All that a block issues is before its end, with the Spills of the call that has most and the Reloads of the call that has most, or with
+-- those that it owes for its neighbours.
+abbrev pub cycles_in : Table → Bool → Accesses → List Arc → List Place → ℕ
+cycles_in t is_entry owed arcs ps =
+    cycles_with t ps (has_leave ps) (most_of owed.spills (spills_at t is_entry arcs ps) ps) (most_of owed.reloads (reloads_at t arcs ps) ps)
 
 abbrev pub call_head : Table → Bool → List Arc → List Place → Place → ℕ
 call_head t is_entry arcs ps call = max (head_by (spills_at t is_entry arcs ps call)) (cycles_by t is_entry arcs ps call)
@@ -74,25 +76,25 @@ call_head t is_entry arcs ps call = max (head_by (spills_at t is_entry arcs ps c
 abbrev pub call_tail : Table → List Arc → List Place → Place → ℕ
 call_tail t arcs ps call = max (tail_by (latency_of t Reload) (reloads_at t arcs ps call)) (cycles_after t arcs ps call + 1)
 
-abbrev pub head_of : Table → Bool → List Arc → List Place → Place → ℕ
-head_of t is_entry arcs ps p =
+abbrev pub head_of : Table → Bool → Accesses → List Arc → List Place → Place → ℕ
+head_of t is_entry owed arcs ps p =
     if is_call_kind p.it.kind then call_head t is_entry arcs ps p
-    else (if is_out p.it.kind then cycles_in t is_entry arcs ps + 1 else 0)
+    else (if is_out p.it.kind then cycles_in t is_entry owed arcs ps + 1 else 0)
 
 abbrev pub tail_in : Table → List Arc → List Place → Place → ℕ
 tail_in t arcs ps p = if is_call_kind p.it.kind then call_tail t arcs ps p else tail_of p.it.kind
 
 -- the end takes the place of an instruction in its own cycle, where nothing else is
-abbrev pub task_of : Table → Bool → List Arc → List Place → Place → Task
-task_of t is_entry arcs ps p = record {
+abbrev pub task_of : Table → Bool → Accesses → List Arc → List Place → Place → Task
+task_of t is_entry owed arcs ps p = record {
   at = var_in (time_of p);
-  head = head_of t is_entry arcs ps p;
+  head = head_of t is_entry owed arcs ps p;
   tail = tail_in t arcs ps p;
   needs = needs_by t (own_instr p.it);
 }
 
-abbrev pub tasks_in : Table → Bool → List Arc → List Place → List Task
-tasks_in t is_entry arcs ps = map (task_of t is_entry arcs ps) (with_kind is_task ps)
+abbrev pub tasks_in : Table → Bool → Accesses → List Arc → List Place → List Task
+tasks_in t is_entry owed arcs ps = map (task_of t is_entry owed arcs ps) (with_kind is_task ps)
 
 -- ---- their order
 
@@ -116,6 +118,6 @@ precedences_by ops befores = joined (map (precedence_by ops) befores)
 -- ---- a block
 
 -- these operations have room before this end, in this order
-abbrev pub length_by : Table → Bool → List Arc → List Constraint → VarId → ℕ → List Place → Constraint
-length_by t is_entry arcs befores end horizon ps =
-    let ops : List Task = tasks_in t is_entry arcs ps in Length ops (precedences_by ops befores) end horizon
+abbrev pub length_by : Table → Bool → Accesses → List Arc → List Constraint → VarId → ℕ → List Place → Constraint
+length_by t is_entry owed arcs befores end horizon ps =
+    let ops : List Task = tasks_in t is_entry owed arcs ps in Length ops (precedences_by ops befores) end horizon

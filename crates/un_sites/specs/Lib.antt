@@ -6,5 +6,6 @@ pub mod Places
 pub mod Postings
 pub mod Pressures
 pub mod Rooms
+pub mod Saved
 pub mod Shares
 pub mod Sites

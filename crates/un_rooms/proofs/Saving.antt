@@ -1,0 +1,108 @@
+-- The saved values of a block, and the edges between blocks, as loops find them.
+use Rattle.std.proofs.Common.{ℕ, zero, suc, ◌≡◌, ◌+◌, ◌<◌, ◌≤◌, Bool, true, false, List, [], ◌∷◌, ◌++◌, drop, length, refl, sym, ap, ◌∙◌}
+use Rattle.std.proofs.Common.{append_assoc, map}
+use Rattle.std.specs.Prelude.{Some, slice_get, ◌&&◌, ◌==◌, if◌then◌else◌}
+use Rattle.un_base.specs.declared.ids.TempId.{TempId}
+use Rattle.un_ir.specs.Linear.{is_out}
+use Rattle.un_ir.specs.declared.extended.ExtBlock.{ExtBlock}
+use Rattle.un_ir.specs.declared.extended.ExtOp.{ExtOp}
+use Rattle.un_ir.specs.declared.extended.Operand.{Operand}
+use Rattle.un_model.specs.Pairs.{joined, places_from}
+use Rattle.un_model.specs.declared.model.BlockVars.{BlockVars}
+use Rattle.un_model.specs.declared.model.Model.{Model}
+use Rattle.un_model.proofs.Lists.{get_below}
+use Rattle.un_model.proofs.Steps.{drop_at, drop_past}
+use Rattle.un_kinds.specs.Constraints.{Constraint}
+use Rattle.un_sites.specs.Befores.{known_befores, length_in}
+use Rattle.un_sites.specs.Lengths.{length_by}
+use Rattle.un_sites.specs.Places.{Place, block_places}
+use Rattle.un_sites.specs.Rooms.{arcs_or}
+use Rattle.un_sites.specs.Saved.{end_operands, reads_alone, read_alone, edges_between, crowded_of, owed_by}
+use Rattle.un_sites.specs.Sites.{place_of}
+use Rattle.un_sites.specs.declared.edges.Accesses.{Accesses}
+use Rattle.un_sites.specs.declared.edges.Edge.{Edge}
+use Rattle.un_sites.specs.declared.sites.Spot.{Spot}
+
+-- ---- what a block's end reads
+
+end_first : (ops : List ExtOp) (k : ℕ) (op : ExtOp) (t : Bool) → slice_get ops k ≡ Some op → t ≡ is_out op.kind
+    → end_operands (drop k ops) ≡ (if t then op.operands else end_operands (drop (k + 1) ops))
+end_first ops k op t at h =
+    ap end_operands (drop_at ops k op at)
+    ∙ ap (λ (b : Bool). if b then op.operands else end_operands (drop (k + 1) ops)) (sym h)
+
+pub end_found : (ops : List ExtOp) (k : ℕ) (op : ExtOp) (t : Bool) → slice_get ops k ≡ Some op → t ≡ is_out op.kind → t ≡ true
+    → end_operands (drop k ops) ≡ end_operands ops → op.operands ≡ end_operands ops
+end_found ops k op t at h e so =
+    ap (λ (b : Bool). if b then op.operands else end_operands (drop (k + 1) ops)) (sym e) ∙ sym (end_first ops k op t at h) ∙ so
+
+pub end_on : (ops : List ExtOp) (k : ℕ) (op : ExtOp) (t : Bool) → slice_get ops k ≡ Some op → t ≡ is_out op.kind → t ≡ false
+    → end_operands (drop k ops) ≡ end_operands ops → end_operands (drop (k + 1) ops) ≡ end_operands ops
+end_on ops k op t at h e so =
+    ap (λ (b : Bool). if b then op.operands else end_operands (drop (k + 1) ops)) (sym e) ∙ sym (end_first ops k op t at h) ∙ so
+
+-- ---- what is read alone
+
+alone_first : (ts : List TempId) (xs : List Operand) (i : ℕ) (t : TempId) (x : Operand) → slice_get ts i ≡ Some t → slice_get xs i ≡ Some x
+    → read_alone (drop i ts) (drop i xs) ≡ (reads_alone t x && read_alone (drop (i + 1) ts) (drop (i + 1) xs))
+alone_first ts xs i t x at here =
+    ap (λ us. read_alone us (drop i xs)) (drop_at ts i t at)
+    ∙ ap (λ ys. read_alone (t ∷ drop (i + 1) ts) ys) (drop_at xs i x here)
+
+pub alone_on : (ts : List TempId) (xs : List Operand) (i : ℕ) (t : TempId) (x : Operand) (whole : Bool) → slice_get ts i ≡ Some t
+    → slice_get xs i ≡ Some x → reads_alone t x ≡ true → read_alone (drop i ts) (drop i xs) ≡ whole
+    → read_alone (drop (i + 1) ts) (drop (i + 1) xs) ≡ whole
+alone_on ts xs i t x whole at here reads h =
+    ap (λ (b : Bool). b && read_alone (drop (i + 1) ts) (drop (i + 1) xs)) (sym reads) ∙ sym (alone_first ts xs i t x at here) ∙ h
+
+pub not_alone : (ts : List TempId) (xs : List Operand) (i : ℕ) (t : TempId) (x : Operand) (whole : Bool) → slice_get ts i ≡ Some t
+    → slice_get xs i ≡ Some x → reads_alone t x ≡ false → read_alone (drop i ts) (drop i xs) ≡ whole → false ≡ whole
+not_alone ts xs i t x whole at here other h =
+    ap (λ (b : Bool). b && read_alone (drop (i + 1) ts) (drop (i + 1) xs)) (sym other) ∙ sym (alone_first ts xs i t x at here) ∙ h
+
+-- where an operand is missing
+pub none_alone : (ts : List TempId) (xs : List Operand) (i : ℕ) (whole : Bool) → i < length ts → length xs ≤ i
+    → read_alone (drop i ts) (drop i xs) ≡ whole → false ≡ whole
+none_alone ts xs i whole lt le h =
+    let t = get_below ts i lt in
+    sym (ap (λ us. read_alone us (drop i xs)) (drop_at ts i t.0 t.1)
+    ∙ ap (λ ys. read_alone (t.0 ∷ drop (i + 1) ts) ys) (drop_past i xs le)) ∙ h
+
+pub all_alone : (ts : List TempId) (xs : List Operand) (i : ℕ) (whole : Bool) → length ts ≤ i → read_alone (drop i ts) (drop i xs) ≡ whole
+    → true ≡ whole
+all_alone ts xs i whole le h = sym (ap (λ us. read_alone us (drop i xs)) (drop_past i ts le)) ∙ h
+
+-- ---- what is added for each place of a list, as far as a loop has come
+
+pub place_added : {A B : Type 0} (g : ℕ → A → List B) (i : ℕ) (xs : List A) (x : A) (made whole next : List B)
+    → made ++ joined (places_from g i (drop i xs)) ≡ whole → slice_get xs i ≡ Some x → next ≡ made ++ g i x
+    → next ++ joined (places_from g (i + 1) (drop (i + 1) xs)) ≡ whole
+place_added {B = B} g i xs x made whole next h q e =
+    let rest = joined {A = B} (places_from g (i + 1) (drop (i + 1) xs)) in
+    let s = ap (λ zs. joined {A = B} (places_from g i zs)) (drop_at xs i x q) in
+    ap (λ zs. zs ++ rest) e ∙ append_assoc made (g i x) rest ∙ ap (λ zs. made ++ zs) (sym s) ∙ h
+
+-- ---- what is posted of a block
+
+-- the operations of a block, where they are all that a list has
+pub block_listed : (old new listed : List Spot) (ps : List Place) → old ≡ [] → map place_of new ≡ map place_of old ++ ps → listed ≡ new
+    → map place_of listed ≡ ps
+block_listed old new listed ps none made is = ap (map place_of) is ∙ made ∙ ap (λ (ss : List Spot). map place_of ss ++ ps) none
+
+-- a block's length with what it owes
+pub length_made : (m : Model) (b n : ℕ) (block : ExtBlock) (vars : BlockVars) (made : Constraint) (owed : Accesses) (marks : List Bool)
+    (edges : List Edge) (ps qs : List Place) → marks ≡ crowded_of m → edges ≡ edges_between m.ext.blocks
+    → ps ≡ block_places b n block vars → qs ≡ block_places b n block vars → owed ≡ owed_by marks edges b block ps
+    → made ≡ length_by m.ext.table (b == 0) owed (arcs_or (slice_get m.arcs b)) (known_befores m b qs) vars.end block.horizon qs
+    → made ∷ [] ≡ length_in m b n block vars
+length_made m b n block vars made owed marks edges ps qs marked between these those owes is =
+    let arcs = arcs_or (slice_get m.arcs b) in
+    ap (λ (c : Constraint). c ∷ []) (
+    is
+    ∙ ap (λ (w : Accesses). length_by m.ext.table (b == 0) w arcs (known_befores m b qs) vars.end block.horizon qs)
+    (owes ∙ ap (λ (ms : List Bool). owed_by ms edges b block ps) marked
+    ∙ ap (λ (es : List Edge). owed_by (crowded_of m) es b block ps) between
+    ∙ ap (λ (zs : List Place). owed_by (crowded_of m) (edges_between m.ext.blocks) b block zs) these)
+    ∙ ap (λ (zs : List Place). length_by m.ext.table (b == 0)
+    (owed_by (crowded_of m) (edges_between m.ext.blocks) b block (block_places b n block vars)) arcs (known_befores m b zs) vars.end
+    block.horizon zs) those)
