@@ -236,7 +236,7 @@ module _ (e : Ext) (o : Options) (values : List ℕ) (h : Solved e o values) (k 
           let u = f.0 in
           let v = start_value taken w u f.1 f.3 f.4 a.taken_long in
           let small : (range_at e o values u.temp.0).reg < FIRST_SLOT =
-              subst (λ n. (range_at e o values n).reg < FIRST_SLOT) (sym f.2) lt in
+          subst (λ n. (range_at e o values n).reg < FIRST_SLOT) (sym f.2) lt in
           let z = a.ready u.place u.temp v.0 small in
           let lat : latency_by e.table (range_at e o values x).instr ≡ 1 =
           ap (λ n. latency_by e.table (range_at e o values n).instr) (sym f.2)

@@ -223,7 +223,7 @@ module _ (t : Table) (T : Temps) (val : ℕ → ℕ) (stack : ℕ → ℕ) (base
   writes_slot s j r fr k st (moves w y o q lx ly) e = absurd (no_slot s j.instr Mov r o refl e)
   writes_slot s j r fr k st (spills w y o z sr d p q) e =
       let g : Some (T.place y - FIRST_SLOT) ≡ Some r =
-          sym (slot_of_spill s j.instr (T.place y - FIRST_SLOT) o (frame_at s j y fr k st (ap uses_frame o) q)) ∙ e in
+      sym (slot_of_spill s j.instr (T.place y - FIRST_SLOT) o (frame_at s j y fr k st (ap uses_frame o) q)) ∙ e in
       let n : T.place y - FIRST_SLOT ≡ r = cc g in (o, (y, z.given, q.slot, n))
   writes_slot s j r fr k st (reloads w y o z sr d q ly) e = absurd (no_slot s j.instr Reload r o refl e)
   writes_slot s j r fr k st (from_pred w y o q kind lo hi ly) e = absurd (no_slot s j.instr P2R r o refl e)
@@ -247,7 +247,7 @@ module _ (t : Table) (T : Temps) (val : ℕ → ℕ) (stack : ℕ → ℕ) (base
   gives_slot s j x h fr k now f st (spills w y o z sr d p q) fit le lt e =
       let g = z.given in let same : y ≡ x = cc (g.gives, e) in
       subst (λ n. (slot s j.instr ≡ Some (T.place n - FIRST_SLOT))
-          × (operand_in s j.instr 0 ≡ as_held (T.kind n) (T.place n) (val n))) same (
+      × (operand_in s j.instr 0 ≡ as_held (T.kind n) (T.place n) (val n))) same (
         slot_of_spill s j.instr (T.place y - FIRST_SLOT) o (frame_at s j y fr k st (ap uses_frame o) q),
         ap (λ vs. slice_index vs 0) (one_operand s j w sr) ∙ copied_from s j w y h k now z (omega arith)
             ∙ held_alike (T.kind w) (T.place w) (T.place y) (val w) (inl p) (inr q.slot) ∙ same_value j w y f (ap is_copy o) z,
@@ -403,7 +403,7 @@ module _ (t : Table) (T : Temps) (val : ℕ → ℕ) (stack : ℕ → ℕ) (base
         slot_before x st le old =
             ap (λ xs. get_or xs (T.place x - FIRST_SLOT) 0) frames
             ∙ puts_other (slot s) (λ i. operand_in s i 0) (instrs js) s.frame (T.place x - FIRST_SLOT)
-                (slot_unwritten x st (omega arith) le)
+            (slot_unwritten x st (omega arith) le)
             ∙ sym (held_slot s (T.place x) le) ∙ k.held x (before x st old)
 
         slot_now : (x : ℕ) → Stands T x (c + 1) → (le : FIRST_SLOT ≤ T.place x) → c + 1 ≤ T.from x

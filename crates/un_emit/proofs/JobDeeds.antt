@@ -69,7 +69,7 @@ in_general r h = ⊎_elim (λ (lt : r < GENERALS). lt) (λ (le : GENERALS ≤ r)
     out r le h =
         let a : nat_lt r GENERALS ≡ false = grind (arith, nat_tests) in
         let k : (if nat_lt r FIRST_SLOT then P else M) ≡ R =
-            sym (ap (λ (b : Bool). if b then R else if nat_lt r FIRST_SLOT then P else M) a) ∙ h in
+        sym (ap (λ (b : Bool). if b then R else if nat_lt r FIRST_SLOT then P else M) a) ∙ h in
         other (nat_lt r FIRST_SLOT) k
       where
         other : (b : Bool) → (if b then P else M) ≡ R → ⊥
@@ -84,8 +84,8 @@ in_predicates r h = ⊎_elim
     let a : nat_lt r GENERALS ≡ false = grind (arith, nat_tests) in
     let b : nat_lt r FIRST_SLOT ≡ false = grind (arith, nat_tests) in
     let k : M ≡ P =
-        sym (ap (λ (b : Bool). if b then R else if nat_lt r FIRST_SLOT then P else M) a
-        ∙ ap (λ (b : Bool). if b then P else M) b) ∙ h in
+    sym (ap (λ (b : Bool). if b then R else if nat_lt r FIRST_SLOT then P else M) a
+    ∙ ap (λ (b : Bool). if b then P else M) b) ∙ h in
     absurd (cc k)) (cases_lt r FIRST_SLOT))
     (cases_lt r GENERALS)
 
