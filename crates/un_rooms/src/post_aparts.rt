@@ -75,7 +75,7 @@ pub fn span_of(temps: &[TempId]) -> Span
 fn no_users(alloc: Global, count: usize) -> Result<Vec<Items<UserOf>>, AllocError>
     ensures { IfOk result (λ lists. lists.items ≡ replicate count []) }
 {
-    let mut lists = Items::new(alloc);
+    let mut lists = Items::from_vec(Vec::with_capacity(alloc, count)?);
     for _ in 0..count {
         lists.push(Items::new(alloc))?;
     }
@@ -252,7 +252,7 @@ fn post_apart_in(
 ) -> Result<(), NoMemory>
     ensures { OnOk result (props.new ≡ props.old ++ apart_in (definers_in sites.now) b first block.now vars.now) }
 {
-    let mut spots = Items::new(props.alloc());
+    let mut spots = Items::from_vec(Vec::with_capacity(props.alloc(), block.ops.len())?);
     add_block(&mut spots, b, first, block, vars)?;
     post_apart(props, sites, spots.as_slice())
 }

@@ -146,7 +146,7 @@ fn post_block_at(
     ensures { OnOk result (props.new ≡ props.old
         ++ spared_in m.now.ext.table.clobbered m.now.arcs (definers_in sites.now) b first block.now vars.now) }
 {
-    let mut spots = Items::new(props.alloc());
+    let mut spots = Items::from_vec(Vec::with_capacity(props.alloc(), block.ops.len())?);
     add_block(&mut spots, b, first, block, vars)?;
     let mask = m.ext.table.clobbered;
     post_block(props, mask, sites, arcs_at(&m.arcs, b), spots.as_slice())

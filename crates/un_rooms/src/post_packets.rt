@@ -71,7 +71,7 @@ fn block_items(
 ) -> Result<Items<Item>, NoMemory>
     ensures { IfOk result (λ items. constraint.PerCycle items block.now.horizon ∷ [] ≡ packets_in t.now b n block.now vars.now) }
 {
-    let mut spots = Items::new(alloc);
+    let mut spots = Items::from_vec(Vec::with_capacity(alloc, block.ops.len())?);
     add_block(&mut spots, b, n, block, vars)?;
     let items = items_of(alloc, t, spots.as_slice())?;
     Ok(items)

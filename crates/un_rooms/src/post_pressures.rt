@@ -130,7 +130,7 @@ fn post_block_at(
 ) -> Result<(), NoMemory>
     ensures { OnOk result (props.new ≡ props.old ++ pressure_in m.now (definers_in sites.now) b first block.now vars.now) }
 {
-    let mut spots = Items::new(props.alloc());
+    let mut spots = Items::from_vec(Vec::with_capacity(props.alloc(), block.ops.len())?);
     add_block(&mut spots, b, first, block, vars)?;
     let room = block_room(props.alloc(), m.domains.as_slice(), sites, spots.as_slice())?;
     let mask = m.ext.table.clobbered;
