@@ -67,7 +67,7 @@ block x freq 1
   ret
 ?blocks: 6 1 2\
 |# The block with the call has no copies of the thirteen saved values, of which the call keeps twelve: one is in a slot from its start to
-# its end. So the entry enters the frame in cycle 1 and spills it in cycle 2, and the last block has a Reload and a Leave beside its return.\
+# its end. So the entry enters the frame in cycle 1 and spills it in cycle 2. The last block has a Reload and a Leave beside its return.\
 |func between
 block e freq 1
 block m freq 1
