@@ -14,6 +14,7 @@ use Rattle.un_ir.specs.declared.function.Kind.TheVariants.{General}
 use Rattle.un_ir.specs.declared.extended.NodeCopy.TheVariants.{D}
 use Rattle.un_ir.specs.declared.extended.ExtKind.TheVariants.{In, Out, Copy}
 use Rattle.un_ir.specs.declared.extended.ExtBlock.{ExtBlock}
+use Rattle.un_ir.specs.declared.extended.ExtOp.{ExtOp}
 use Rattle.un_model.specs.declared.model.Model.{Model}
 use Rattle.un_model.specs.Variables.{model_of}
 use Rattle.un_prop.specs.declared.act.Act.{Act}
@@ -436,6 +437,43 @@ crossing_pressures : pressures_of crossing ≡
     Live (map (λ (k : ℕ). span (Const 0) (at 28 ∷ [])) numbers ++ span (at 13) [] ∷ []) 6 8 ∷ Across (v 13) 13 0 ∷ []
 unfolding callee_saved room_of
 crossing_pressures = refl
+
+-- ---- an entry before a block that has no copies of thirteen saved values
+
+abbrev saving_block : List ExtOp → ExtBlock
+saving_block call = record {
+  freq = 1;
+  label = codes "s";
+  live_in = [];
+  live_out = [];
+  ops = op In [] numbers ∷ (call ++ op Out (map (λ (k : ℕ). reads (k ∷ []) None) numbers) [] ∷ []);
+  horizon = 8;
+}
+
+abbrev empty_block : ExtBlock
+empty_block = record {
+  freq = 1;
+  label = codes "f";
+  live_in = [];
+  live_out = [];
+  ops = op In [] [] ∷ op Out [] [] ∷ [];
+  horizon = 6;
+}
+
+abbrev saving : List ExtOp → Model
+saving call =
+    model_of (record { table = HEXAGON; names = []; blocks = empty_block ∷ saving_block call ∷ [] }) (record { regs = None; slots = 1 })
+
+-- the call keeps twelve of them: the entry hands one over in a slot, behind Enter and a Spill
+saving_lengths : lengths_of (saving (op (source Op.Call (pos 0)) [] (13 ∷ []) ∷ [])) ≡
+    Length (end_task 0 3 ∷ []) [] (v 0) 6 ∷ Length (call_task 14 1 1 ∷ end_task 29 2 ∷ []) [] (v 29) 8 ∷ []
+unfolding callee_saved
+saving_lengths = refl
+
+-- without a call it owes nothing
+kept_lengths : lengths_of (saving []) ≡ Length (end_task 0 1 ∷ []) [] (v 0) 6 ∷ Length (end_task 27 1 ∷ []) [] (v 27) 8 ∷ []
+unfolding callee_saved
+kept_lengths = refl
 
 -- ---- what crosses a call whether it is read before it or behind it
 

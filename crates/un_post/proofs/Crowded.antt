@@ -1,45 +1,40 @@
--- Saved values in slots: where a block hands its saved values over where it takes them, a call in it leaves one of them in a slot. An edge
--- carries it on: the entry spills it before it hands it over, and a block that reads it in a register reloads it.
-use Rattle.std.proofs.Common.{ℕ, zero, suc, ◌≡◌, ◌<◌, ◌≤◌, ◌+◌, ◌-◌, Bool, true, false, List, [], ◌∷◌, ◌++◌, length, map, filter, inl, inr}
-use Rattle.std.proofs.Common.{refl, sym, ap, ◌∙◌, subst, arith, eq-eqb}
-use Rattle.std.specs.Prelude.{Option, Some, None, IfSome, slice_get, slice_index, ◌&&◌, ◌||◌, ◌==◌, nat_le, nat_lt, is_some, if◌then◌else◌}
+-- Saved values in slots: where a block hands its saved values over where it takes them, a call in it leaves one of them in a slot. The
+-- entry spills what it hands over in a slot, and a block that takes a value in a slot and reads it in a register reloads it.
+use Rattle.std.proofs.Common.{ℕ, zero, suc, ◌≡◌, ◌<◌, ◌≤◌, ◌+◌, ◌-◌, Bool, true, false, List, [], ◌∷◌, length, map, filter, inl, inr}
+use Rattle.std.proofs.Common.{refl, sym, ap, ◌∙◌, subst, arith}
+use Rattle.std.specs.Prelude.{Option, Some, None, slice_get, ◌&&◌, ◌||◌, ◌==◌, nat_lt, is_some}
 use Rattle.std.specs.List.{list_any}
 use Rattle.std.specs.Option.{option_map}
 use Rattle.std.proofs.lemmas.Bool.{eqb-true}
 use Rattle.std.proofs.lemmas.Bool.Decides.{nat_tests}
 use Rattle.std.proofs.lemmas.List.{length-drop}
-use Rattle.std.proofs.lemmas.Option.{slice_get_past}
-use Rattle.un_base.specs.declared.ids.NameId.{NameId}
 use Rattle.un_base.specs.declared.ids.TempId.{TempId}
-use Rattle.un_base.specs.declared.ids.VarId.{VarId}
 use Rattle.un_isa.specs.Registers.{callee_saved, saved_registers}
 use Rattle.un_isa.specs.declared.op.Op.{Op}
 use Rattle.un_isa.specs.declared.op.Op.TheVariants.{Call, Spill, Reload}
-use Rattle.un_ir.specs.declared.function.Term.{Term}
 use Rattle.un_ir.specs.declared.extended.ExtKind.{ExtKind}
 use Rattle.un_ir.specs.declared.extended.ExtKind.TheVariants.{In, Out, Body, End, Copy, Enter, Leave}
 use Rattle.un_ir.specs.declared.extended.Operand.{Operand}
 use Rattle.un_ir.specs.declared.extended.ExtOp.{ExtOp}
 use Rattle.un_ir.specs.declared.extended.ExtBlock.{ExtBlock}
 use Rattle.un_ir.specs.declared.extended.Ext.{Ext}
-use Rattle.un_ir.specs.Extended.{temp, is_copy, one_if, result_count, wants_of}
+use Rattle.un_ir.specs.Extended.{temp, is_copy, result_count, wants_of}
 use Rattle.un_ir.specs.Kinds.{is_call_kind, is_delimiter, is_mandatory}
-use Rattle.un_ir.specs.Linear.{first_of, is_in, place_by, place_over}
-use Rattle.un_ir.specs.Live.{targets_of}
+use Rattle.un_ir.specs.Linear.{first_of, is_in}
 use Rattle.un_model.specs.declared.model.Options.{Options}
 use Rattle.un_model.specs.declared.schedule.LiveRange.{LiveRange}
 use Rattle.un_model.specs.declared.schedule.Read.{Read}
-use Rattle.un_model.specs.Congruences.{term_of, live_in_temps, live_out_reads, register_of, register_read, HandsOver, HandsOn}
+use Rattle.un_model.specs.Congruences.{live_in_temps, live_out_reads, register_of, register_read}
 use Rattle.un_model.specs.Instructions.{instruction_of}
 use Rattle.un_model.specs.Pairs.{places_from}
 use Rattle.un_model.specs.Schedules.{schedule_of, issues_of, reads_of, read_of, value_by, cycle_by, choice_of}
 use Rattle.un_model.specs.Solutions.{IsSchedule, latency_gap}
 use Rattle.un_model.specs.Variables.{model_of, var_at, ops_count}
 use Rattle.un_model.proofs.Lists.{Each, Pairwise, Member, each_of, each_member, member_at, member_map, member_map_of, member_of_filter}
-use Rattle.un_model.proofs.Lists.{member_append_right, any_of, get_below, length_get, pairwise_of_map, place_of as position_of}
+use Rattle.un_model.proofs.Lists.{member_append_right, any_of, get_below, pairwise_of_map, place_of as position_of}
 use Rattle.un_model.proofs.Operations.{placed_get}
 use Rattle.un_model.proofs.Placed.{Placed, Region, region_placed, vars_of, end_of, issue_at, Spot, spot, spots_of}
-use Rattle.un_model.proofs.PlacedSchedules.{all, spots, spot_range, the_ranges, range_get, range_here, one_spot, definer_in, issue_here}
+use Rattle.un_model.proofs.PlacedSchedules.{all, spots, the_ranges, range_get, range_here, one_spot, definer_in, issue_here}
 use Rattle.un_model.proofs.Readings.{Solved, reading as read_by}
 use Rattle.un_model.proofs.TempKinds.{carried_at, spot_carried}
 use Rattle.un_press.proofs.Counting.{Differ, length_mapped}
@@ -49,24 +44,20 @@ use Rattle.un_press.proofs.Descent.{cycle_at, Reader, Held, IsOnTheWay, held}
 use Rattle.un_press.proofs.Kept.{saved_cover, entry_starts}
 use Rattle.un_press.proofs.Premises.{source_needs, end_needs, home_needs, reads_active}
 use Rattle.un_press.proofs.Reloading.{NeedsRegister, no_reader, reloads}
-use Rattle.un_press.proofs.Spilling.{Several, slot_spilled, one_placed, same_end, true_le}
+use Rattle.un_press.proofs.Spilling.{slot_spilled, one_placed, same_end, true_le}
 use Rattle.un_sites.specs.Crossings.{is_asked, is_register_home, reads_value}
-use Rattle.un_sites.specs.Places.{Place}
-use Rattle.un_sites.specs.Saved.{edges_between, saved_in, saved_out, end_operands, keeps_places, has_call, is_crowded, crowded_of, is_marked}
-use Rattle.un_sites.specs.Saved.{leads_there, comes_from, reads_saved, owed_by}
-use Rattle.un_sites.specs.declared.edges.Accesses.{Accesses}
-use Rattle.un_sites.specs.declared.edges.Edge.{Edge}
+use Rattle.un_sites.specs.Saved.{saved_in, saved_out, end_operands, keeps_places, has_call, is_crowded}
+use Rattle.un_sites.specs.Saved.{reads_saved}
 use Rattle.un_post.proofs.AccessRooms.{placed_as}
 use Rattle.un_post.proofs.Blocks.{blocks, region_places, in_all}
-use Rattle.un_post.proofs.Congruences.{in_is, live_in_is, member_contains}
+use Rattle.un_post.proofs.Congruences.{in_is, live_in_is}
 use Rattle.un_post.proofs.Crossed.{OtherTemp, different, pairwise_part, some_home}
 use Rattle.un_post.proofs.Ends.{all_regions, region_good, region_end, last_member, the_end, end_reads, end_read}
 use Rattle.un_post.proofs.Facts.{Given, numbered, reading, read_temp, in_domains}
-use Rattle.un_post.proofs.Filling.{none_of}
 use Rattle.un_post.proofs.NoSharing.{all_pass}
 use Rattle.un_post.proofs.Placing.{place_of}
-use Rattle.un_post.proofs.Regions.{region_is, region_of, of_region, last_of, front_of, region_parts}
-use Rattle.un_post.proofs.SavedLists.{drop_get, differ_drop, temps_differ, end_is, alone_at, Leaving, leaving, marked_passes}
+use Rattle.un_post.proofs.Regions.{of_region, last_of, front_of, region_parts}
+use Rattle.un_post.proofs.SavedLists.{drop_get, differ_drop, temps_differ, end_is, alone_at}
 use Rattle.un_post.proofs.Spared.{call_instr}
 use Rattle.un_post.proofs.Tests.{and_iff}
 use Rattle.un_post.proofs.Whole.{spot_in}
@@ -184,7 +175,7 @@ module _ (e : Ext) (o : Options) (x : List ℕ) (given : Given e o x)
     all_first : (let f = begins in Member f.first (all e o x))
     all_first = let f = begins in in_all e o x r f.first in_blocks f.region
 
-    saved_count : length (saved_in r.owner) ≡ length (saved_registers e.table)
+    pub saved_count : length (saved_in r.owner) ≡ length (saved_registers e.table)
     saved_count =
         let own : ExtBlock = r.owner in
         let f = begins in
@@ -251,7 +242,7 @@ module _ (e : Ext) (o : Options) (x : List ℕ) (given : Given e o x)
           }
 
       -- it stays in one place
-      stays : (j : ℕ) (v : TempId) → slice_get (saved_in r.owner) j ≡ Some v
+      pub stays : (j : ℕ) (v : TempId) → slice_get (saved_in r.owner) j ≡ Some v
           → register_read ranges (slice_get (handed_by k) (place_out j)) ≡ register_of ranges v
       stays j v here =
           let h = handed j v here in
@@ -388,7 +379,7 @@ module _ (e : Ext) (o : Options) (x : List ℕ) (given : Given e o x)
               slot = true_le 36 (reg_of e o x solved s) both.1;
             }
 
-    crowded_slot : is_crowded (length (callee_saved e.table)) r.owner ≡ true → InSlot r
+    pub crowded_slot : is_crowded (length (callee_saved e.table)) r.owner ≡ true → InSlot r
     crowded_slot crowded =
         let own : ExtBlock = r.owner in
         let kept = length (callee_saved e.table) in
@@ -418,7 +409,7 @@ module _ (e : Ext) (o : Options) (x : List ℕ) (given : Given e o x)
               absurd (cc z)
 
       -- the entry spills it
-      end_spills : r.block ≡ 0 → (p : Placed) × Accesses_by r Spill p
+      pub end_spills : r.block ≡ 0 → (p : Placed) × Accesses_by r Spill p
       end_spills entry =
           let en = region_end e o x given k r at in
           let y = end_operand in
@@ -615,7 +606,7 @@ module _ (e : Ext) (o : Options) (x : List ℕ) (given : Given e o x)
               (subst (λ (r : Reader e o x solved v 0). NeedsRegister e o x solved v 0 r) (sym same) needs) high
 
       -- it is reloaded
-      start_reloads : (p : Placed) × Accesses_by r Reload p
+      pub start_reloads : (p : Placed) × Accesses_by r Reload p
       start_reloads =
           let w = carrying in
           let u = used in
@@ -629,149 +620,3 @@ module _ (e : Ext) (o : Options) (x : List ℕ) (given : Given e o x)
               instr = reloads e o x solved v 0 w.reader w.want w.wants w.reading on.copy high;
             },
           )
-
-  -- ---- over an edge
-
-  module _ (k : ℕ) (r : Region) (at : slice_get (all_regions e o x given) k ≡ Some r) (l : ℕ) (s : Region)
-      (there : slice_get (all_regions e o x given) l ≡ Some s) (leads : Member l (targets_of k (let a : ExtBlock = r.owner in term_of a.ops)))
-      where
-    abbrev a : ExtBlock
-    a = r.owner
-
-    abbrev b : ExtBlock
-    b = s.owner
-
-    place_is : (j : ℕ) → place_over a b (length b.live_in + j) ≡ length a.live_out + j
-    place_is j =
-        let i = length b.live_in + j in
-        let rest : length a.live_out + (i - length b.live_in) ≡ length a.live_out + j = omega arith in
-        ap (λ (n : Option NameId). place_by a b i n) (slice_get_past b.live_in i (omega arith)) ∙ rest
-
-    -- a saved value has one place where it is handed over and where it is taken
-    one_place : (j : ℕ) (z : TempId) → slice_get (saved_in b) j ≡ Some z
-        → register_read ranges (slice_get (handed_by k) (length a.live_out + j)) ≡ register_of ranges z
-    unfolding HandsOn HandsOver
-    one_place j z here =
-        let live = sym (drop_get (length b.live_in) j (live_in_temps b.ops)) ∙ here in
-        subst (λ (i : ℕ). register_read ranges (slice_get (handed_by k) i) ≡ register_of ranges z) (place_is j)
-        (schedule.congruences k a (region_is 0 0 0 e.blocks k r at).0 l b (member_contains (targets_of k (term_of a.ops)) l leads)
-        (region_is 0 0 0 e.blocks l s there).0 (length b.live_in + j) z live)
-
-    -- it is carried on
-    pub carried_on : keeps_places r.owner ≡ true → InSlot r → InSlot s
-    carried_on keeps i =
-        let j = i.place in
-        let lt = length_get (saved_in r.owner) j i.temp i.at in
-        let here = saved_count k r at in
-        let next = saved_count l s there in
-        let z = get_below (saved_in s.owner) j (omega (arith, lt, here, next)) in
-        record {
-          place = j;
-          temp = z.0;
-          at = z.1;
-          reg = i.reg;
-          is = sym (one_place j z.0 z.1) ∙ stays k r at keeps j i.temp i.at ∙ i.is;
-          slot = i.slot;
-        }
-
-    -- the entry spills what it hands over in a slot
-    pub spilled_before : r.block ≡ 0 → InSlot s → (p : Placed) × Accesses_by r Spill p
-    spilled_before entry i = end_spills k r at (length a.live_out + i.place) i.reg (one_place i.place i.temp i.at ∙ i.is) i.slot entry
-
-  -- ---- marks
-
-  -- a block that has a saved value in a slot, from its start to its end
-  pub record Slotted (l : ℕ) : Type 0 where
-    pub region : Region
-    pub at : slice_get (all_regions e o x given) l ≡ Some region
-    pub keeps : keeps_places region.owner ≡ true
-    pub in_slot : InSlot region
-
-  abbrev pub AreSlotted : List Bool → Type 0
-  AreSlotted marks = (l : ℕ) → is_marked marks l ≡ true → Slotted l
-
-  pub crowded_slotted : AreSlotted (crowded_of (model_of e o))
-  crowded_slotted l marked =
-      let kept = length (callee_saved e.table) in
-      let found = marked_passes (is_crowded kept) e.blocks l marked in
-      let s = region_of 0 0 0 e.blocks l found.0 found.1 in
-      let both : Some s.0.owner ≡ Some found.0 = sym (region_is 0 0 0 e.blocks l s.0 s.1).0 ∙ found.1 in
-      let same : s.0.owner ≡ found.0 = cc both in
-      let crowded : is_crowded kept s.0.owner ≡ true = ap (is_crowded kept) same ∙ found.2 in
-      let own : ExtBlock = s.0.owner in
-      let two = (and_iff (has_call own) (nat_lt kept (length (saved_in own)) && keeps_places own)).1 crowded in
-      let more = (and_iff (nat_lt kept (length (saved_in own))) (keeps_places own)).1 two.1 in
-      record { region = s.0; at = s.1; keeps = more.1; in_slot = crowded_slot l s.0 s.1 crowded }
-
-  -- ---- what a block owes
-
-  one_of : (P : Placed → Type 0) (p : Placed) → P p → Several e o x solved P 1
-  one_of P p h = record { listed = p ∷ []; differ = (tt, tt); each = (h, tt); many = omega arith }
-
-  module _ (marks : List Bool) (slotted : AreSlotted marks) (r : Region) (mr : Member r (blocks e o x)) where
-    abbrev owed : Accesses
-    owed = owed_by marks (edges_between e.blocks) r.block r.owner (region_places r)
-
-    abbrev k : ℕ
-    k = let i = position_of (blocks e o x) r mr in i.0
-
-    at : slice_get (all_regions e o x given) k ≡ Some r
-    at = let i = position_of (blocks e o x) r mr in i.2
-
-    number_is : r.block ≡ k
-    number_is = let is = (region_is 0 0 0 e.blocks k r at).1 in omega (arith, is)
-
-    -- an edge that leaves this block leads where its end does
-    leads_on : (d : Edge) → Member d (edges_between e.blocks) → d.from ≡ k → Member d.to (targets_of k
-        (let a : ExtBlock = r.owner in term_of a.ops))
-    leads_on d m from =
-        let f = leaving 0 e.blocks d m in
-        let is = f.from in
-        let place : f.place ≡ k = omega (arith, is, from) in
-        let both : Some f.block ≡ Some r.owner = sym f.at ∙ ap (slice_get e.blocks) place ∙ (region_is 0 0 0 e.blocks k r at).0 in
-        let same : f.block ≡ r.owner = cc both in
-        subst (λ (n : ℕ). Member d.to (targets_of n (let a : ExtBlock = r.owner in term_of a.ops))) from
-        (subst (λ (a : ExtBlock). Member d.to (targets_of d.from (term_of a.ops))) same f.to)
-
-    pub owed_spills : Several e o x solved (λ p. Accesses_by r Spill p × (r.block ≡ 0)) (let w = owed in w.spills)
-    owed_spills = by (r.block == 0 && leads_there marks (edges_between e.blocks) r.block) refl
-      where
-        by : (b : Bool) → (r.block == 0 && leads_there marks (edges_between e.blocks) r.block) ≡ b
-            → Several e o x solved (λ p. Accesses_by r Spill p × (r.block ≡ 0)) (one_if b)
-        by false h = none_of e o x solved (λ p. Accesses_by r Spill p × (r.block ≡ 0))
-        by true h =
-            let two = (and_iff (r.block == 0) (leads_there marks (edges_between e.blocks) r.block)).1 h in
-            let entry = eqb-true r.block 0 two.0 in
-            let test = λ (d : Edge). d.from == r.block && is_marked marks d.to in
-            let d = any_of test (edges_between e.blocks) two.1 in
-            let both = (and_iff (d.0.from == r.block) (is_marked marks d.0.to)).1 d.2 in
-            let from = eqb-true d.0.from r.block both.0 ∙ number_is in
-            let s = slotted d.0.to both.1 in
-            let p = spilled_before k r at d.0.to s.region s.at (leads_on d.0 d.1 from) entry s.in_slot in
-            one_of (λ p. Accesses_by r Spill p × (r.block ≡ 0)) p.0 (p.1, entry)
-
-    pub owed_reloads : Several e o x solved (Accesses_by r Reload) (let w = owed in w.reloads)
-    owed_reloads = by (comes_from marks (edges_between e.blocks) r.block && reads_saved r.owner (region_places r)) refl
-      where
-        by : (b : Bool) → (comes_from marks (edges_between e.blocks) r.block && reads_saved r.owner (region_places r)) ≡ b
-            → Several e o x solved (Accesses_by r Reload) (one_if b)
-        by false h = none_of e o x solved (Accesses_by r Reload)
-        by true h =
-            let two = (and_iff (comes_from marks (edges_between e.blocks) r.block) (reads_saved r.owner (region_places r))).1 h in
-            let test = λ (d : Edge). d.to == r.block && is_marked marks d.from in
-            let d = any_of test (edges_between e.blocks) two.0 in
-            let both = (and_iff (d.0.to == r.block) (is_marked marks d.0.from)).1 d.2 in
-            let to = eqb-true d.0.to r.block both.0 ∙ number_is in
-            let s = slotted d.0.from both.1 in
-            let f = leaving 0 e.blocks d.0 d.1 in
-            let is = f.from in
-            let place : f.place ≡ d.0.from = omega (arith, is) in
-            let own : Some f.block ≡ Some s.region.owner = sym f.at ∙ ap (slice_get e.blocks) place
-            ∙ (region_is 0 0 0 e.blocks d.0.from s.region s.at).0 in
-            let same : f.block ≡ s.region.owner = cc own in
-            let leads : Member k (targets_of d.0.from (let a : ExtBlock = s.region.owner in term_of a.ops)) =
-            subst (λ (n : ℕ). Member n (targets_of d.0.from (let a : ExtBlock = s.region.owner in term_of a.ops))) to
-            (subst (λ (a : ExtBlock). Member d.0.to (targets_of d.0.from (term_of a.ops))) same f.to) in
-            let i = carried_on d.0.from s.region s.at k r at leads s.keeps s.in_slot in
-            let p = start_reloads k r at i two.1 in
-            one_of (Accesses_by r Reload) p.0 p.1

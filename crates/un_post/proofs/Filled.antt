@@ -35,7 +35,7 @@ use Rattle.un_post.proofs.AccessRooms.{framed, distant, placed_as, late}
 use Rattle.un_post.proofs.Blocks.{blocks, region_places, region_close, in_all, stands_in}
 use Rattle.un_post.proofs.CallOrder.{ordered}
 use Rattle.un_post.proofs.Crossed.{owed_spills as call_spills, owed_reloads as call_reloads}
-use Rattle.un_post.proofs.Crowded.{Accesses_by, crowded_slotted, owed_spills, owed_reloads}
+use Rattle.un_post.proofs.Crowded.{Accesses_by}
 use Rattle.un_post.proofs.Facts.{Given, in_domains}
 use Rattle.un_post.proofs.Filling.{enough, greatest_is, none_of, several_more, first_of_several, takes_is, Beside, Other, beside_none}
 use Rattle.un_post.proofs.Filling.{beside_one}
@@ -46,6 +46,7 @@ use Rattle.un_post.proofs.OneEnter.{filter_map, one_enter}
 use Rattle.un_post.proofs.Packets.{sum_map, sum_part}
 use Rattle.un_post.proofs.Placing.{place_of}
 use Rattle.un_post.proofs.Regions.{of_region, placed_regions}
+use Rattle.un_post.proofs.Slotted.{crowded_slotted, owed_spills, owed_reloads}
 use Rattle.un_post.proofs.Spared.{Ordered, call_instr}
 use Rattle.un_post.proofs.Tests.{and_iff}
 

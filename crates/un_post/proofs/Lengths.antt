@@ -473,8 +473,8 @@ module _ (e : Ext) (o : Options) (x : List ℕ) (given : Given e o x)
 
     length_met : Met x (length_in (model_of e o) r.block r.number r.owner (region_vars r))
     length_met = let owner = r.owner in
-        subst (λ (ps : List Place). Met x (length_by e.table (r.block == 0) (owed_by (crowded_of m) (edges_between e.blocks) r.block owner ps)
-        arcs (known_befores m r.block ps) close owner.horizon ps ∷ []))
+        subst (λ (ps : List Place). Met x (length_by e.table (r.block == 0)
+        (owed_by (crowded_of m) (edges_between e.blocks) r.block owner ps) arcs (known_befores m r.block ps) close owner.horizon ps ∷ []))
         (sym (places_in r))
         (fits_holds ops (precedences_by ops (known_befores m r.block (region_places r))) close x fits, tt)
 

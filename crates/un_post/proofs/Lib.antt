@@ -47,6 +47,7 @@ pub mod Regions
 pub mod RegisterBounds
 pub mod Relaxed
 pub mod SavedLists
+pub mod Slotted
 pub mod Solved
 pub mod SpaceSets
 pub mod Spaces

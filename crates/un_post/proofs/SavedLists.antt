@@ -1,5 +1,5 @@
 -- The saved values of a block, which it takes and hands over, and the edges between blocks, by their places in lists.
-use Rattle.std.proofs.Common.{ℕ, zero, suc, ◌≡◌, ◌+◌, Bool, true, false, List, [], ◌∷◌, ◌++◌, length, map, drop, inl, inr, refl, sym, ap}
+use Rattle.std.proofs.Common.{ℕ, zero, suc, ◌≡◌, ◌+◌, Bool, true, false, List, [], ◌∷◌, ◌++◌, length, map, drop, inl, inr, refl, ap}
 use Rattle.std.proofs.Common.{◌∙◌, subst, arith}
 use Rattle.std.specs.Prelude.{Some, slice_get, ◌&&◌, ◌==◌, if◌then◌else◌}
 use Rattle.std.proofs.lemmas.Bool.{eqb-true}
@@ -13,7 +13,7 @@ use Rattle.un_ir.specs.declared.extended.ExtOp.{ExtOp}
 use Rattle.un_ir.specs.declared.extended.Operand.{Operand}
 use Rattle.un_model.specs.Congruences.{term_of}
 use Rattle.un_model.specs.Pairs.{joined, places_from}
-use Rattle.un_model.proofs.Lists.{Each, Pairwise, Member, each_of, each_member, member_map_of}
+use Rattle.un_model.proofs.Lists.{Each, Pairwise, Member, member_map_of}
 use Rattle.un_model.proofs.Placed.{Placed, Spot, spot}
 use Rattle.un_model.proofs.PlacedSchedules.{split_member}
 use Rattle.un_press.proofs.Counting.{Differ}

@@ -1,7 +1,8 @@
 -- The saved values of a block, and the edges between blocks, as loops find them.
-use Rattle.std.proofs.Common.{ℕ, zero, suc, ◌≡◌, ◌+◌, ◌<◌, ◌≤◌, Bool, true, false, List, [], ◌∷◌, ◌++◌, drop, length, refl, sym, ap, ◌∙◌}
-use Rattle.std.proofs.Common.{append_assoc, map}
-use Rattle.std.specs.Prelude.{Some, slice_get, ◌&&◌, ◌==◌, if◌then◌else◌}
+use Rattle.std.proofs.Common.{ℕ, zero, suc, ◌≡◌, ◌+◌, ◌-◌, ◌<◌, ◌≤◌, Bool, true, false, List, [], ◌∷◌, ◌++◌, drop, length, refl, sym, ap, ◌∙◌}
+use Rattle.std.proofs.Common.{append_assoc, map, arith}
+use Rattle.std.proofs.lemmas.List.{set_past}
+use Rattle.std.specs.Prelude.{Some, fold, slice_get, slice_set, ◌&&◌, ◌==◌, if◌then◌else◌}
 use Rattle.un_base.specs.declared.ids.TempId.{TempId}
 use Rattle.un_ir.specs.Linear.{is_out}
 use Rattle.un_ir.specs.declared.extended.ExtBlock.{ExtBlock}
@@ -17,7 +18,7 @@ use Rattle.un_sites.specs.Befores.{known_befores, length_in}
 use Rattle.un_sites.specs.Lengths.{length_by}
 use Rattle.un_sites.specs.Places.{Place, block_places}
 use Rattle.un_sites.specs.Rooms.{arcs_or}
-use Rattle.un_sites.specs.Saved.{end_operands, reads_alone, read_alone, edges_between, crowded_of, owed_by}
+use Rattle.un_sites.specs.Saved.{end_operands, reads_alone, read_alone, edges_between, marked_over, marked_after, crowded_of, owed_by}
 use Rattle.un_sites.specs.Sites.{place_of}
 use Rattle.un_sites.specs.declared.edges.Accesses.{Accesses}
 use Rattle.un_sites.specs.declared.edges.Edge.{Edge}
@@ -106,3 +107,23 @@ length_made m b n block vars made owed marks edges ps qs marked between these th
     ∙ ap (λ (zs : List Place). length_by m.ext.table (b == 0)
     (owed_by (crowded_of m) (edges_between m.ext.blocks) b block (block_places b n block vars)) arcs (known_befores m b zs) vars.end
     block.horizon zs) those)
+
+-- ---- marks
+
+-- where there is no such place nothing is marked
+pub past_marked : (marks : List Bool) (k : ℕ) → length marks ≤ k → marks ≡ slice_set marks k true
+past_marked marks k le = sym (set_past marks k true le)
+
+-- one round of several, and none
+pub round_on : (n i : ℕ) (keeping : List Bool) (edges : List Edge) (marks next whole : List Bool) → i < n
+    → marked_after (n - i) keeping edges marks ≡ whole → next ≡ fold (marked_over keeping) marks edges
+    → marked_after (n - (i + 1)) keeping edges next ≡ whole
+round_on n i keeping edges marks next whole lt h made =
+    let less : n - i ≡ suc (n - (i + 1)) = omega (arith, lt) in
+    ap (λ (ms : List Bool). marked_after (n - (i + 1)) keeping edges ms) made
+    ∙ sym (ap (λ (k : ℕ). marked_after k keeping edges marks) less) ∙ h
+
+pub rounds_done : (n i : ℕ) (keeping : List Bool) (edges : List Edge) (marks whole : List Bool) → n ≤ i
+    → marked_after (n - i) keeping edges marks ≡ whole → marks ≡ whole
+rounds_done n i keeping edges marks whole le h =
+    let none : n - i ≡ 0 = omega (arith, le) in sym (ap (λ (k : ℕ). marked_after k keeping edges marks) none) ∙ h

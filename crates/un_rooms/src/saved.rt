@@ -97,7 +97,7 @@ fn read_alone(temps: &[TempId], operands: &[Operand]) -> bool
 }
 
 /// Whether a block hands its saved values over where it takes them.
-fn keeps_places(block: &ExtBlock) -> bool
+pub(crate) fn keeps_places(block: &ExtBlock) -> bool
     ensures { result ≡ keeps_places block.now }
 {
     read_alone(saved_in(block), saved_out(block))

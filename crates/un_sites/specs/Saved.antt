@@ -1,10 +1,11 @@
 -- Saved values in slots over several blocks. A block that is neither the entry nor returns has no copies of the saved values: each stays
 -- where it is from the block's start to its end. A call in it keeps fewer registers than there are such values, so in every solution one
 -- of them is in a slot all along. A block from which an edge leads there hands that value over in the slot, and one to which an edge
--- leads from there takes it in the slot: the entry, in which no value begins in a slot, spills it, and a block that reads all saved
--- values in registers reloads it.
-use Rattle.std.specs.Prelude.{ℕ, ◌+◌, ◌==◌, nat_lt, Bool, true, false, ◌&&◌, if◌then◌else◌, List, [], ◌∷◌, map, drop, length}
-use Rattle.std.specs.Prelude.{slice_index_or}
+-- leads from there takes it in the slot. Where such a block keeps its saved values in their places too, it has that one in the slot all
+-- along, and so on; the entry, in which no value begins in a slot, spills it, and a block that reads all saved values in registers
+-- reloads it.
+use Rattle.std.specs.Prelude.{ℕ, zero, suc, ◌==◌, nat_lt, Bool, true, false, ◌&&◌, if◌then◌else◌, List, [], ◌∷◌, map, fold, drop, length}
+use Rattle.std.specs.Prelude.{slice_index_or, slice_set}
 use Rattle.std.specs.List.{list_any, list_all}
 use Rattle.un_base.specs.declared.ids.TempId.{TempId}
 use Rattle.un_isa.specs.Registers.{callee_saved}
@@ -74,12 +75,30 @@ is_crowded kept b = has_call b && (nat_lt kept (length (saved_in b)) && keeps_pl
 
 -- ---- all blocks
 
--- whether each block has a saved value in a slot, where it must by its calls
-abbrev pub crowded_of : Model → List Bool
-crowded_of m = map (is_crowded (length (callee_saved m.ext.table))) m.ext.blocks
-
 abbrev pub is_marked : List Bool → ℕ → Bool
 is_marked marks k = slice_index_or marks k false
+
+-- block l is marked where block k is, if it keeps its saved values in their places
+abbrev pub marked_from : List Bool → ℕ → ℕ → List Bool → List Bool
+marked_from keeping k l marks = if is_marked marks k && is_marked keeping l then slice_set marks l true else marks
+
+-- an edge carries a mark on, and back
+abbrev pub marked_over : List Bool → List Bool → Edge → List Bool
+marked_over keeping marks e = marked_from keeping e.to e.from (marked_from keeping e.from e.to marks)
+
+-- so do all edges, again and again
+abbrev pub marked_after : ℕ → List Bool → List Edge → List Bool → List Bool
+marked_after zero keeping edges marks = marks
+marked_after (suc n) keeping edges marks = marked_after n keeping edges (fold (marked_over keeping) marks edges)
+
+-- whether each block has a saved value in a slot: by a call in it, or by one in a block to which edges join it over others that keep their
+-- saved values in their places
+abbrev pub crowded_in : ℕ → List ExtBlock → List Bool
+crowded_in kept blocks =
+    marked_after (length blocks) (map keeps_places blocks) (edges_between blocks) (map (is_crowded kept) blocks)
+
+abbrev pub crowded_of : Model → List Bool
+crowded_of m = crowded_in (length (callee_saved m.ext.table)) m.ext.blocks
 
 -- an edge leads from block k to one that is marked, or from one that is to block k
 abbrev pub leads_there : List Bool → List Edge → ℕ → Bool

@@ -1,6 +1,6 @@
 use Rattle.un_model.proofs.Steps.{map_more}
 use Rattle.un_sites.specs.Saved.{is_crowded}
-use Rattle.un_rooms.proofs.crowds.crowded_in.Goals as goal
+use Rattle.un_rooms.proofs.crowds.crowded_by_calls.Goals as goal
 
 pub loop-k-preserved : goal.loop-k-preserved
 loop-k-preserved c =
