@@ -32,8 +32,9 @@ fn gaps_after(
 ) -> Result<Items<u32>, AllocError>
     ensures { IfOk result (λ gaps. gaps ≡ by_number (λ (i : Option Op). latency_gap t.now i user) kind.now) }
 {
-    let mut gaps = Items::new(alloc);
-    for n in 0..number_count(kind) {
+    let count = number_count(kind);
+    let mut gaps = Items::from_vec(Vec::with_capacity(alloc, count as usize)?);
+    for n in 0..count {
         gaps.push(gap(t, instruction(kind, n), user))?;
     }
     Ok(gaps)

@@ -182,7 +182,7 @@ pub fn registers_at(
 ) -> Result<Items<VarId>, AllocError>
     ensures { IfOk result (λ regs. regs ≡ registers_at (definers_in sites.now) xs.now) }
 {
-    let mut regs = Items::new(alloc);
+    let mut regs = Items::from_vec(Vec::with_capacity(alloc, xs.len())?);
     add_registers(&mut regs, sites, xs)?;
     Ok(regs)
 }
@@ -195,7 +195,7 @@ pub fn sites_at<'a>(
 ) -> Result<Items<Site<'a>>, AllocError>
     ensures { IfOk result (λ found. definers_in found ≡ definers_at (definers_in sites.now) xs.now) }
 {
-    let mut found = Items::new(alloc);
+    let mut found = Items::from_vec(Vec::with_capacity(alloc, xs.len())?);
     for x in xs {
         found.push(site_of(sites, *x))?;
     }
@@ -206,7 +206,7 @@ pub fn sites_at<'a>(
 pub fn registers_of(alloc: Global, alts: &[Site<'_>]) -> Result<Items<VarId>, AllocError>
     ensures { IfOk result (λ regs. regs ≡ registers_of (definers_in alts.now)) }
 {
-    let mut regs = Items::new(alloc);
+    let mut regs = Items::from_vec(Vec::with_capacity(alloc, alts.len())?);
     for site in alts {
         regs.push(site.reg)?;
     }

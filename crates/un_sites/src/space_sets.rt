@@ -15,7 +15,7 @@ fn numbers_from(alloc: Global, first: u32, n: u32) -> Result<Items<u32>, AllocEr
     requires { first + n < 2 ^ 32 }
     ensures { IfOk result (λ rs. rs ≡ range_with_len first n) }
 {
-    let mut numbers = Items::new(alloc);
+    let mut numbers = Items::from_vec(Vec::with_capacity(alloc, n as usize)?);
     for i in 0..n {
         numbers.push(first + i)?;
     }

@@ -68,7 +68,7 @@ pub fn all_sites<'a>(
 ) -> Result<Items<Site<'a>>, AllocError>
     ensures { IfOk result (λ sites. definers_in sites ≡ map (definer_of (map place_of spots.now)) temps.now) }
 {
-    let mut sites = Items::new(alloc);
+    let mut sites = Items::from_vec(Vec::with_capacity(alloc, temps.len())?);
     for t in temps {
         let site = Site {
             place: spot_at(spots, t.op.0 as usize),
