@@ -1,7 +1,9 @@
-use Rattle.std.proofs.Common.{ℕ, Bool, true, false, refl, sym, ap, subst, arith, ◌∙◌, ◌≡◌, All, List, [], length}
+use Rattle.std.proofs.Common.{ℕ, ◌++◌, take, drop, Bool, true, false, refl, sym, ap, subst, arith, ◌∙◌, ◌≡◌, All, List, [], length}
 use Rattle.un_domains.specs.Sets.{Sets}
 use Rattle.std.proofs.lemmas.List.{length-replicate}
+use Rattle.std.proofs.Math.Seq.{take-append_seam}
 use Rattle.un_prop.specs.Pruning.{IsFix}
+use Rattle.un_prop.specs.Queues.{IsSizes}
 use Rattle.un_prop.specs.Rounds.{fix_of}
 use Rattle.un_prop.specs.declared.run.Fix.TheVariants.{Stable, Failed as Lost}
 use Rattle.un_engine.specs.Engines.{AllNoted, IsNode}
@@ -70,3 +72,19 @@ run_from-fix-requires-clause-ready g c i d lt rests =
     let flags = ap length c.in_ok-waiting.ensures ∙ (length-replicate _ _ ∙ ap length c.as_slice-2.ensures.value) in
     let within = rw c.as_slice-3.ensures.value at lt in
     absurd (true_or_false _ (c.wake_all.ensures.wait i (omega (arith, flags, within))) rests)
+
+pub run_from-fix-requires-clause-sizes : goal.run_from-fix-requires-clause-sizes
+run_from-fix-requires-clause-sizes g c =
+    let s = c.args.store.sets in
+    let counts = c.in_ok-counts.counts in
+    let after = c.measure.new.sizes in
+    let measured : IsSizes after s = c.measure.ensures in
+    let long : counts.len ≡ length after = omega (
+      arith,
+      measured.long,
+      c.len-vars.ensures,
+      c.in_ok-counts.ensures.len,
+    ) in
+    subst (λ (ws : List ℕ). IsSizes ws s) (sym c.new-sizes.ensures.words)
+    (subst (λ (n : ℕ). IsSizes (take n (after ++ drop (length after) counts.items)) s) (sym long)
+    (subst (λ (ws : List ℕ). IsSizes ws s) (sym (take-append_seam after (drop (length after) counts.items))) measured))
