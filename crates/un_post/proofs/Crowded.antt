@@ -10,6 +10,7 @@ use Rattle.std.proofs.lemmas.Bool.Decides.{nat_tests}
 use Rattle.std.proofs.lemmas.List.{length-drop}
 use Rattle.un_base.specs.declared.ids.TempId.{TempId}
 use Rattle.un_isa.specs.Registers.{callee_saved, saved_registers}
+use Rattle.un_isa.specs.Tables.{latency_of}
 use Rattle.un_isa.specs.declared.op.Op.{Op}
 use Rattle.un_isa.specs.declared.op.Op.TheVariants.{Call, Spill, Reload}
 use Rattle.un_ir.specs.declared.extended.ExtKind.{ExtKind}
@@ -25,7 +26,7 @@ use Rattle.un_model.specs.declared.model.Options.{Options}
 use Rattle.un_model.specs.declared.schedule.LiveRange.{LiveRange}
 use Rattle.un_model.specs.declared.schedule.Read.{Read}
 use Rattle.un_model.specs.Congruences.{live_in_temps, live_out_reads, register_of, register_read}
-use Rattle.un_model.specs.Instructions.{instruction_of}
+use Rattle.un_model.specs.Instructions.{instruction_of, latency_by}
 use Rattle.un_model.specs.Pairs.{places_from}
 use Rattle.un_model.specs.Schedules.{schedule_of, issues_of, reads_of, read_of, value_by, cycle_by, choice_of}
 use Rattle.un_model.specs.Solutions.{IsSchedule, latency_gap}
@@ -44,7 +45,7 @@ use Rattle.un_press.proofs.Descent.{cycle_at, Reader, Held, IsOnTheWay, held}
 use Rattle.un_press.proofs.Kept.{saved_cover, entry_starts}
 use Rattle.un_press.proofs.Premises.{source_needs, end_needs, home_needs, reads_active}
 use Rattle.un_press.proofs.Reloading.{NeedsRegister, no_reader, reloads}
-use Rattle.un_press.proofs.Spilling.{slot_spilled, one_placed, same_end, true_le}
+use Rattle.un_press.proofs.Spilling.{by_end, slot_spilled, one_placed, same_end, true_le}
 use Rattle.un_sites.specs.Crossings.{is_asked, is_register_home, reads_value}
 use Rattle.un_sites.specs.Saved.{saved_in, saved_out, end_operands, keeps_places, has_call, is_crowded}
 use Rattle.un_sites.specs.Saved.{reads_saved}
@@ -605,18 +606,24 @@ module _ (e : Ext) (o : Options) (x : List ℕ) (given : Given e o x)
               no_reader e o x solved v 0 w.reader w.want w.wants w.reading
               (subst (λ (r : Reader e o x solved v 0). NeedsRegister e o x solved v 0 r) (sym same) needs) high
 
-      -- it is reloaded
-      pub start_reloads : (p : Placed) × Accesses_by r Reload p
+      -- it is reloaded, by the block's end
+      pub start_reloads : (p : Placed) × Accesses_by r Reload p × (cycle p + latency_of e.table Reload ≤ end_of x p)
       start_reloads =
           let w = carrying in
           let u = used in
           let q = w.reader in
-          let on = on_the_way in (
+          let on = on_the_way in
+          let reloaded = reloads e o x solved v 0 w.reader w.want w.wants w.reading on.copy high in
+          let done = by_end e o x solved u.user all_user user_active in
+          let end = same_end e o x solved q.user u.user q.member all_user w.block in
+          let late : latency_by e.table (issue_at x q.user).instr ≡ latency_of e.table Reload = ap (latency_by e.table) reloaded in
+          let ready = on.ready in (
             q.user,
             record {
               member = q.member;
               block = w.block ∙ of_region r u.user u.region;
               copy = on.copy;
-              instr = reloads e o x solved v 0 w.reader w.want w.wants w.reading on.copy high;
+              instr = reloaded;
             },
+            omega (arith, done, end, late, ready),
           )

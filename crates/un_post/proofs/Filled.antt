@@ -5,11 +5,12 @@ use Rattle.std.proofs.Common.{refl, sym, ap, ◌∙◌, arith, eq-eqb}
 use Rattle.std.specs.Prelude.{Some, not, ◌&&◌, ◌==◌, slice_get, slice_index, sum_by, if◌then◌else◌}
 use Rattle.std.proofs.lemmas.List.Sums.{sum_by-cons, sum_by-append}
 use Rattle.un_base.specs.declared.ids.VarId.{VarId}
+use Rattle.un_isa.specs.Tables.{latency_of}
 use Rattle.un_isa.specs.declared.op.Op.{Op}
 use Rattle.un_isa.specs.declared.op.Op.TheVariants.{Call, Spill, Reload, Enter as EnterOp, Leave as LeaveOp}
 use Rattle.un_isa.specs.declared.packet_counts.Resource.{Resource}
 use Rattle.un_ir.specs.declared.extended.Ext.{Ext}
-use Rattle.un_ir.specs.Extended.{is_copy, is_leave}
+use Rattle.un_ir.specs.Extended.{is_copy, is_leave, one_if}
 use Rattle.un_ir.specs.Kinds.{is_call_kind, is_mandatory}
 use Rattle.un_model.specs.declared.model.Arc.{Arc}
 use Rattle.un_model.specs.declared.model.Options.{Options}
@@ -25,10 +26,10 @@ use Rattle.un_press.proofs.Descent.{cycle_at}
 use Rattle.un_press.proofs.Spilling.{Several, SpilledBy}
 use Rattle.un_press.proofs.Reloading.{ReloadedAfter}
 use Rattle.un_sites.specs.Crossings.{is_ahead, spills_at, reloads_at}
-use Rattle.un_sites.specs.Lengths.{cycles_by, cycles_after, cycles_in, most_of}
+use Rattle.un_sites.specs.Lengths.{head_by, tail_by, owed_head, end_head, cycles_by, cycles_after, cycles_in, most_of}
 use Rattle.un_sites.specs.Places.{Place}
 use Rattle.un_sites.specs.Rooms.{arcs_or, is_behind}
-use Rattle.un_sites.specs.Saved.{crowded_of, edges_between, owed_by}
+use Rattle.un_sites.specs.Saved.{crowded_of, edges_between, leads_there, comes_from, reads_saved, owed_by}
 use Rattle.un_sites.specs.Shares.{own_share, spills_share, reloads_share, has_leave}
 use Rattle.un_sites.specs.declared.edges.Accesses.{Accesses}
 use Rattle.un_post.proofs.AccessRooms.{framed, distant, placed_as, late}
@@ -46,7 +47,7 @@ use Rattle.un_post.proofs.OneEnter.{filter_map, one_enter}
 use Rattle.un_post.proofs.Packets.{sum_map, sum_part}
 use Rattle.un_post.proofs.Placing.{place_of}
 use Rattle.un_post.proofs.Regions.{of_region, placed_regions}
-use Rattle.un_post.proofs.Slotted.{crowded_slotted, owed_spills, owed_reloads}
+use Rattle.un_post.proofs.Slotted.{ReloadsIn as ReloadsBy, crowded_slotted, owed_spills, owed_reloads}
 use Rattle.un_post.proofs.Spared.{Ordered, call_instr}
 use Rattle.un_post.proofs.Tests.{and_iff}
 
@@ -514,17 +515,65 @@ module _ (e : Ext) (o : Options) (x : List ℕ) (given : Given e o x)
           }))
           (owed_spills e o x given schedule (crowded_of (model_of e o)) (crowded_slotted e o x given schedule) r mr)
 
+      ready_owed : Several e o x solved (ReloadsBy e o x given schedule r) (let w = owed in w.reloads)
+      ready_owed = owed_reloads e o x given schedule (crowded_of (model_of e o)) (crowded_slotted e o x given schedule) r mr
+
       reloads_owed : ReloadsIn (let w = owed in w.reloads)
-      reloads_owed = several_more e o x solved (Accesses_by e o x given schedule r Reload) (Reloading 1 whole mandatory (λ q h. h))
+      reloads_owed = several_more e o x solved (ReloadsBy e o x given schedule r) (Reloading 1 whole mandatory (λ q h. h))
           (let w = owed in w.reloads)
-          (λ p a. record {
+          (λ p h. (let a = h.0 in record {
             member = a.member;
             block = a.block;
             copy = a.copy;
             instr = a.instr;
             there = within_block Reload p a;
-          })
-          (owed_reloads e o x given schedule (crowded_of (model_of e o)) (crowded_slotted e o x given schedule) r mr)
+          }))
+          ready_owed
+
+      -- a Spill is behind Enter, and the end behind it
+      spill_end : (n : ℕ) → 0 < n → SpillsIn n → 3 ≤ close
+      spill_end n more s =
+          let first = first_of_several e o x solved (Spilling 1 whole mandatory (λ q h. h)) n more s in
+          let p = first.0 in
+          let spill = first.1 in
+          let after = late e o x given schedule (issue_at x p) (issue_member p spill.member) (spill.block ∙ spill.entry) spill.instr in
+          let begun = after.some in
+          let ahead = after.after in
+          let there = spill.there in
+          let within = there.1 in
+          let some = some_end in
+          omega (arith, begun, ahead, within, some)
+
+      -- what a Reload gives is ready by the end
+      reload_end : (n : ℕ) → 0 < n → Several e o x solved (ReloadsBy e o x given schedule r) n → latency_of e.table Reload + 1 ≤ close
+      reload_end n more s =
+          let first = first_of_several e o x solved (ReloadsBy e o x given schedule r) n more s in
+          let p = first.0 in
+          let a = first.1.0 in
+          let ready = first.1.1 in
+          let there = within_block Reload p a in
+          let begun = there.0 in
+          let closes = end_is p (stands_in e o x r p mr a.member a.block) in
+          omega (arith, ready, begun, closes)
+
+      head_one : (b : Bool) → (0 < one_if b → 3 ≤ close) → head_by (one_if b) + 1 ≤ close
+      head_one false h = some_end
+      head_one true h = h (omega arith)
+
+      tail_one : (b : Bool) → (0 < one_if b → latency_of e.table Reload + 1 ≤ close)
+          → tail_by (latency_of e.table Reload) (one_if b) ≤ close
+      tail_one false h = some_end
+      tail_one true h = let le = h (omega arith) in omega (arith, le)
+
+      owed_filled : owed_head e.table owed ≤ close
+      owed_filled =
+          let marks = crowded_of (model_of e o) in
+          let edges = edges_between e.blocks in
+          let spilled = head_one (r.block == 0 && leads_there marks edges r.block) (λ more. spill_end (let w = owed in w.spills) more
+          spills_owed) in
+          let reloaded = tail_one (comes_from marks edges r.block && reads_saved r.owner ps)
+          (λ more. reload_end (let w = owed in w.reloads) more ready_owed) in
+          omega (arith, spilled, reloaded)
 
       -- ---- all that it issues
 
@@ -571,7 +620,7 @@ module _ (e : Ext) (o : Options) (x : List ℕ) (given : Given e o x)
           (spills_beside 1 whole mandatory (λ q h. h) (omega arith) spills_most spills_in)
           (reloads_beside 1 whole mandatory (λ q h. h) (omega (arith, some)) reloads_most reloads_in)
 
-      pub end_filled : cycles_in e.table (r.block == 0) owed arcs ps + 1 ≤ close
+      end_filled : cycles_in e.table (r.block == 0) owed arcs ps + 1 ≤ close
       end_filled =
           let some = some_end in
           let le = enough e.table ps (has_leave ps) spills_most reloads_most whole (λ resource.
@@ -587,3 +636,7 @@ module _ (e : Ext) (o : Options) (x : List ℕ) (given : Given e o x)
           let fit = beside_fits e o x solved r.block 1 whole mandatory tag 2 6 need with_accesses resource in
           omega (arith, own, all_of, fit)) in
           omega (arith, le, some)
+
+      -- the end is behind all of it
+      pub end_behind : end_head e.table (r.block == 0) owed arcs ps ≤ close
+      end_behind = let filled = end_filled in let owes = owed_filled in omega (arith, filled, owes)

@@ -38,7 +38,7 @@ use Rattle.un_length.specs.BlockLaws.{fits_holds}
 use Rattle.un_kinds.specs.Constraints.{Constraint, AllMet, Before, meets}
 use Rattle.un_sites.specs.Befores.{arc_before, befores_in, known_befores, length_in, lengths_of}
 use Rattle.un_sites.specs.CallBefores.{call_befores_by}
-use Rattle.un_sites.specs.Lengths.{is_task, tail_of, call_head, call_tail, cycles_in, var_in, task_of, tasks_in, task_place}
+use Rattle.un_sites.specs.Lengths.{is_task, tail_of, end_head, call_head, call_tail, var_in, task_of, tasks_in, task_place}
 use Rattle.un_sites.specs.Lengths.{precedence_by, precedences_by}
 use Rattle.un_sites.specs.Lengths.{length_by}
 use Rattle.un_sites.specs.Places.{Place, act_by, time_by, places_of}
@@ -52,7 +52,7 @@ use Rattle.un_post.proofs.CallOrder.{kept}
 use Rattle.un_post.proofs.Crossed.{heads, tails}
 use Rattle.un_post.proofs.Ends.{region_end}
 use Rattle.un_post.proofs.Facts.{Given, times}
-use Rattle.un_post.proofs.Filled.{heads_filled, tails_filled, end_filled}
+use Rattle.un_post.proofs.Filled.{heads_filled, tails_filled, end_behind}
 use Rattle.un_post.proofs.Latencies.{latencies}
 use Rattle.un_post.proofs.Meeting.{Met, all_each, joined_each}
 use Rattle.un_post.proofs.Memory.{kept_met}
@@ -420,14 +420,14 @@ module _ (e : Ext) (o : Options) (x : List ℕ) (given : Given e o x)
       where
         by : (b c : Bool) → is_call_kind q.op.kind ≡ b → is_out q.op.kind ≡ c
             → (if b then call_head e.table (r.block == 0) arcs (region_places r) (place_of q)
-            else (if c then cycles_in e.table (r.block == 0) owed arcs (region_places r) + 1 else 0)) ≤ cycle_of x (task q)
+            else (if c then end_head e.table (r.block == 0) owed arcs (region_places r) else 0)) ≤ cycle_of x (task q)
         by true c k out =
             let le = heads e o x given schedule r mr q m k in
             let filled = heads_filled e o x given schedule r mr q m k in
             let same = cycle_is q t in
             omega (arith, le, filled, same)
         by false true k out =
-            let filled = end_filled e o x given schedule r mr q m in
+            let filled = end_behind e o x given schedule r mr q m in
             let at = end_at q m out in
             omega (arith, filled, at)
         by false false k out = omega arith

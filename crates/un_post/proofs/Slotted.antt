@@ -1,6 +1,6 @@
 -- A saved value in a slot goes on over edges: the blocks that are marked for it have one in every solution. The entry owes a Spill for it,
 -- and a block that reads the saved values in registers a Reload.
-use Rattle.std.proofs.Common.{ℕ, zero, suc, ◌≡◌, ◌⊎◌, ◌+◌, ◌-◌, Bool, true, false, List, [], ◌∷◌, length, map, inl, inr}
+use Rattle.std.proofs.Common.{ℕ, zero, suc, ◌≡◌, ◌⊎◌, ◌≤◌, ◌+◌, ◌-◌, Bool, true, false, List, [], ◌∷◌, length, map, inl, inr}
 use Rattle.std.proofs.Common.{refl, sym, ap, ◌∙◌, subst, arith}
 use Rattle.std.specs.Prelude.{Option, Some, fold, slice_get, slice_set, ◌&&◌, ◌==◌, nat_lt, if◌then◌else◌}
 use Rattle.std.proofs.lemmas.Bool.{eqb-true}
@@ -8,6 +8,7 @@ use Rattle.std.proofs.lemmas.Option.{slice_get_past}
 use Rattle.un_base.specs.declared.ids.NameId.{NameId}
 use Rattle.un_base.specs.declared.ids.TempId.{TempId}
 use Rattle.un_isa.specs.Registers.{callee_saved}
+use Rattle.un_isa.specs.Tables.{latency_of}
 use Rattle.un_isa.specs.declared.op.Op.TheVariants.{Spill, Reload}
 use Rattle.un_ir.specs.declared.extended.ExtBlock.{ExtBlock}
 use Rattle.un_ir.specs.declared.extended.Ext.{Ext}
@@ -23,9 +24,10 @@ use Rattle.un_model.specs.Solutions.{IsSchedule, latency_gap}
 use Rattle.un_model.specs.Variables.{model_of}
 use Rattle.un_model.proofs.Lists.{Each, Member, each_of}
 use Rattle.un_model.proofs.Lists.{any_of, get_below, length_get, place_of as position_of}
-use Rattle.un_model.proofs.Placed.{Placed, Region}
+use Rattle.un_model.proofs.Placed.{Placed, Region, end_of}
 use Rattle.un_model.proofs.PlacedSchedules.{the_ranges}
 use Rattle.un_model.proofs.Readings.{Solved}
+use Rattle.un_press.proofs.Descent.{cycle_at}
 use Rattle.un_press.proofs.Spilling.{Several}
 use Rattle.un_sites.specs.Saved.{edges_between, saved_in, keeps_places, has_call, is_crowded, crowded_of, is_marked}
 use Rattle.un_sites.specs.Saved.{marked_from, marked_over, marked_after, leads_there, comes_from, reads_saved, owed_by}
@@ -230,6 +232,10 @@ module _ (e : Ext) (o : Options) (x : List ℕ) (given : Given e o x)
 
   -- ---- what a block owes
 
+  -- a Reload of a block, which gives its value by the block's end
+  abbrev pub ReloadsIn : Region → Placed → Type 0
+  ReloadsIn r p = Accesses_by e o x given schedule r Reload p × (cycle_at e o x solved p + latency_of e.table Reload ≤ end_of x p)
+
   one_of : (P : Placed → Type 0) (p : Placed) → P p → Several e o x solved P 1
   one_of P p h = record { listed = p ∷ []; differ = (tt, tt); each = (h, tt); many = omega arith }
 
@@ -263,12 +269,12 @@ module _ (e : Ext) (o : Options) (x : List ℕ) (given : Given e o x)
             let p = spilled_before k r at d.0.to s.region s.at (leads_from d.0 d.1 k d.0.to from refl r at) entry s.in_slot in
             one_of (λ p. Accesses_by e o x given schedule r Spill p × (r.block ≡ 0)) p.0 (p.1, entry)
 
-    pub owed_reloads : Several e o x solved (Accesses_by e o x given schedule r Reload) (let w = owed in w.reloads)
+    pub owed_reloads : Several e o x solved (ReloadsIn r) (let w = owed in w.reloads)
     owed_reloads = by (comes_from marks (edges_between e.blocks) r.block && reads_saved r.owner (region_places r)) refl
       where
         by : (b : Bool) → (comes_from marks (edges_between e.blocks) r.block && reads_saved r.owner (region_places r)) ≡ b
-            → Several e o x solved (Accesses_by e o x given schedule r Reload) (one_if b)
-        by false h = none_of e o x solved (Accesses_by e o x given schedule r Reload)
+            → Several e o x solved (ReloadsIn r) (one_if b)
+        by false h = none_of e o x solved (ReloadsIn r)
         by true h =
             let two = (and_iff (comes_from marks (edges_between e.blocks) r.block) (reads_saved r.owner (region_places r))).1 h in
             let test = λ (d : Edge). d.to == r.block && is_marked marks d.from in
@@ -279,4 +285,4 @@ module _ (e : Ext) (o : Options) (x : List ℕ) (given : Given e o x)
             let leads = leads_from d.0 d.1 d.0.from k refl to s.region s.at in
             let i = carried_on d.0.from s.region s.at k r at leads s.keeps s.in_slot in
             let p = start_reloads e o x given schedule k r at i two.1 in
-            one_of (Accesses_by e o x given schedule r Reload) p.0 p.1
+            one_of (ReloadsIn r) p.0 (p.1, p.2)

@@ -1,5 +1,5 @@
 -- The saved values of a block, and the edges between blocks, as loops find them.
-use Rattle.std.proofs.Common.{ℕ, zero, suc, ◌≡◌, ◌+◌, ◌-◌, ◌<◌, ◌≤◌, Bool, true, false, List, [], ◌∷◌, ◌++◌, drop, length, refl, sym, ap, ◌∙◌}
+use Rattle.std.proofs.Common.{ℕ, suc, ◌≡◌, ◌+◌, ◌-◌, ◌<◌, ◌≤◌, Bool, true, false, List, [], ◌∷◌, ◌++◌, drop, length, sym, ap, ◌∙◌}
 use Rattle.std.proofs.Common.{append_assoc, map, arith}
 use Rattle.std.proofs.lemmas.List.{set_past}
 use Rattle.std.specs.Prelude.{Some, fold, slice_get, slice_set, ◌&&◌, ◌==◌, if◌then◌else◌}

@@ -13,7 +13,7 @@ use Rattle.un_model.proofs.Steps.{drop_at}
 use Rattle.un_rooms.specs.Demands.{demand_of, end_by, task_by, task_with}
 use Rattle.un_rooms.specs.declared.demands.Demand.{Demand}
 use Rattle.un_sites.specs.Crossings.{spills_at}
-use Rattle.un_sites.specs.Lengths.{is_task, call_head, tail_in, cycles_in, most_of, task_of}
+use Rattle.un_sites.specs.Lengths.{is_task, owed_head, end_head, call_head, tail_in, most_of, task_of}
 use Rattle.un_sites.specs.Shares.{has_leave, cycles_with}
 use Rattle.un_sites.specs.Places.{Place}
 use Rattle.un_sites.specs.Postings.{with_kind}
@@ -84,13 +84,13 @@ module _ (t : Table) (is_entry : Bool) (owed : Accesses) (arcs : List Arc) (ps :
   abbrev all : List Demand
   all = map (demand_of t is_entry arcs ps) ps
 
-  end_is : end_by t owed ps all ≡ cycles_in t is_entry owed arcs ps + 1
+  end_is : end_by t owed ps all ≡ end_head t is_entry owed arcs ps
   end_is =
-      ap (λ (ns : List ℕ). cycles_with t ps (has_leave ps) (fold max owed.spills ns)
-      (fold max owed.reloads (map (λ (d : Demand). d.asked.reloads) all)) + 1)
+      ap (λ (ns : List ℕ). max (cycles_with t ps (has_leave ps) (fold max owed.spills ns)
+      (fold max owed.reloads (map (λ (d : Demand). d.asked.reloads) all)) + 1) (owed_head t owed))
       (mapped_twice (λ (d : Demand). d.asked.spills) (demand_of t is_entry arcs ps) ps)
-      ∙ ap (λ (ns : List ℕ). cycles_with t ps (has_leave ps) (most_of owed.spills (spills_at t is_entry arcs ps) ps)
-      (fold max owed.reloads ns) + 1)
+      ∙ ap (λ (ns : List ℕ). max (cycles_with t ps (has_leave ps) (most_of owed.spills (spills_at t is_entry arcs ps) ps)
+      (fold max owed.reloads ns) + 1) (owed_head t owed))
       (mapped_twice (λ (d : Demand). d.asked.reloads) (demand_of t is_entry arcs ps) ps)
 
   pub task_is : (p : Place) (end : ℕ) (demands : List Demand) (d : Demand) → demands ≡ all → end ≡ end_by t owed ps demands
@@ -99,7 +99,7 @@ module _ (t : Table) (is_entry : Bool) (owed : Accesses) (arcs : List Arc) (ps :
       ap (task_by t end p) made
       ∙ ap (λ (n : ℕ). task_by t n p (demand_of t is_entry arcs ps p)) (is ∙ ap (end_by t owed ps) are ∙ end_is)
       ∙ ap (task_with t p (tail_in t arcs ps p)) (head_is (is_call_kind p.it.kind) (is_out p.it.kind) (call_head t is_entry arcs ps p)
-      (cycles_in t is_entry owed arcs ps + 1))
+      (end_head t is_entry owed arcs ps))
 
 -- the demand at a place is that of the operation there
 pub demand_at : (f : Place → Demand) (i : ℕ) (spots : List Spot) (p : Spot) (demands : List Demand) (d : Demand)

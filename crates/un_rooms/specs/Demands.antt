@@ -9,7 +9,7 @@ use Rattle.un_model.specs.Instructions.{needs_by}
 use Rattle.un_model.specs.declared.model.Arc.{Arc}
 use Rattle.un_rooms.specs.declared.demands.Demand.{Demand}
 use Rattle.un_sites.specs.Crossings.{spills_at, reloads_at}
-use Rattle.un_sites.specs.Lengths.{call_head, tail_in, var_in}
+use Rattle.un_sites.specs.Lengths.{owed_head, call_head, tail_in, var_in}
 use Rattle.un_sites.specs.Places.{Place, time_of}
 use Rattle.un_sites.specs.Shares.{has_leave, cycles_with}
 use Rattle.un_sites.specs.declared.edges.Accesses.{Accesses}
@@ -28,8 +28,8 @@ demand_of t is_entry arcs ps p = record {
 -- the head of the end of a block that owes so much and of which the operations ask for this
 abbrev pub end_by : Table → Accesses → List Place → List Demand → ℕ
 end_by t owed ps demands =
-    cycles_with t ps (has_leave ps) (fold max owed.spills (map (λ (d : Demand). d.asked.spills) demands))
-    (fold max owed.reloads (map (λ (d : Demand). d.asked.reloads) demands)) + 1
+    max (cycles_with t ps (has_leave ps) (fold max owed.spills (map (λ (d : Demand). d.asked.spills) demands))
+    (fold max owed.reloads (map (λ (d : Demand). d.asked.reloads) demands)) + 1) (owed_head t owed)
 
 -- an operation as what takes a place before the end, with these margins
 abbrev pub task_with : Table → Place → ℕ → ℕ → Task

@@ -1,7 +1,6 @@
 //! Which blocks have a saved value in a slot in every solution, and what their neighbours owe for it.
 
-ghost use Rattle.std.specs.Prelude.{◌≡◌, ◌==◌, ◌&&◌, ◌++◌, true, IfOk, OnOk, fold, map, length, slice_set};
-ghost use Rattle.std.specs.List.{list_any};
+ghost use Rattle.std.specs.Prelude.{◌≡◌, ◌==◌, ◌&&◌, ◌++◌, true, IfOk, OnOk, fold, map, slice_set};
 ghost use Rattle.un_isa.specs.Registers.{callee_saved};
 ghost use Rattle.un_sites.specs.Saved.{edges_from, edges_between, keeps_places, is_crowded, is_marked, marked_from, marked_over};
 ghost use Rattle.un_sites.specs.Saved.{marked_after, crowded_in, crowded_of, leads_there, comes_from, owed_by};

@@ -9,7 +9,7 @@ ghost use Rattle.un_isa.specs.declared.op.Op.TheVariants.{Reload};
 ghost use Rattle.un_model.specs.declared.model.Arc.{Arc};
 ghost use Rattle.un_rooms.specs.Demands.{demand_of};
 ghost use Rattle.un_rooms.specs.Reach.{IsWithin, IsArcWithin};
-ghost use Rattle.un_sites.specs.Lengths.{head_by, tail_by, tail_of};
+ghost use Rattle.un_sites.specs.Lengths.{head_by, tail_by, tail_of, owed_head};
 ghost use Rattle.un_sites.specs.Shares.{cycles_with};
 ghost use Rattle.un_sites.specs.Sites.{place_of};
 ghost use Rattle.un_sites.specs.declared.sites.Spot.{Spot};
@@ -84,6 +84,15 @@ fn tail_by(latency: u32, reloads: u32) -> Result<u32, NoMemory>
     }
     let more = later(reloads, 1)?;
     later(latency, more / 2)
+}
+
+/// The first cycle in which the end of a block has behind it the Spills and the Reloads that the block owes.
+pub(crate) fn owed_head(t: &Table, owed: Accesses) -> Result<u32, NoMemory>
+    ensures { IfOk result (λ head. head ≡ owed_head t.now owed) }
+{
+    let spilled = later(head_by(owed.spills)?, 1)?;
+    let reloaded = tail_by(latency(t, Op::Reload), owed.reloads)?;
+    Ok(spilled.max(reloaded))
 }
 
 /// The first cycle in which a call has these operations, of which it is one, and its Spills behind it.

@@ -9,7 +9,7 @@ ghost use Rattle.un_rooms.specs.Waits.{before_of, befores_by};
 ghost use Rattle.un_sites.specs.Lengths.{is_task, var_in, tasks_in, task_place, precedence_at, precedence_by, precedences_by};
 ghost use Rattle.un_sites.specs.Sites.{place_of};
 
-use crate::demands::{Demand, demands_in, most};
+use crate::demands::{Demand, demands_in, most, owed_head};
 use crate::shares::{cycles_with, has_leave};
 use crate::span::reach_of;
 use crate::wait::Wait;
@@ -101,7 +101,9 @@ fn end_of(
     ensures { IfOk result (λ end. end ≡ end_by t.now owed (map place_of spots.now) demands.now) }
 {
     let cycles = cycles_with(t, spots, has_leave(spots), most(owed, demands))?;
-    later(cycles, 1)
+    let filled = later(cycles, 1)?;
+    let accessed = owed_head(t, owed)?;
+    Ok(filled.max(accessed))
 }
 
 /// Those of a block's operations that every solution issues, and its end, of a block that owes so much.

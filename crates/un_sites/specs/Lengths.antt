@@ -70,6 +70,13 @@ abbrev pub cycles_in : Table → Bool → Accesses → List Arc → List Place �
 cycles_in t is_entry owed arcs ps =
     cycles_with t ps (has_leave ps) (most_of owed.spills (spills_at t is_entry arcs ps) ps) (most_of owed.reloads (reloads_at t arcs ps) ps)
 
+-- By the end the Spills that a block owes are behind Enter, and what its Reloads give is ready.
+abbrev pub owed_head : Table → Accesses → ℕ
+owed_head t owed = max (head_by owed.spills + 1) (tail_by (latency_of t Reload) owed.reloads)
+
+abbrev pub end_head : Table → Bool → Accesses → List Arc → List Place → ℕ
+end_head t is_entry owed arcs ps = max (cycles_in t is_entry owed arcs ps + 1) (owed_head t owed)
+
 abbrev pub call_head : Table → Bool → List Arc → List Place → Place → ℕ
 call_head t is_entry arcs ps call = max (head_by (spills_at t is_entry arcs ps call)) (cycles_by t is_entry arcs ps call)
 
@@ -79,7 +86,7 @@ call_tail t arcs ps call = max (tail_by (latency_of t Reload) (reloads_at t arcs
 abbrev pub head_of : Table → Bool → Accesses → List Arc → List Place → Place → ℕ
 head_of t is_entry owed arcs ps p =
     if is_call_kind p.it.kind then call_head t is_entry arcs ps p
-    else (if is_out p.it.kind then cycles_in t is_entry owed arcs ps + 1 else 0)
+    else (if is_out p.it.kind then end_head t is_entry owed arcs ps else 0)
 
 abbrev pub tail_in : Table → List Arc → List Place → Place → ℕ
 tail_in t arcs ps p = if is_call_kind p.it.kind then call_tail t arcs ps p else tail_of p.it.kind
