@@ -33,3 +33,6 @@ search-requires-clause-ends c =
     let r = c.in_ok-stores-in-Some in
     first_end c.args.m.now c.args.limit p.props.items p.store.sets c.in-Some.engine r.stores.engine e.sets
     (engine_at p.props.items p.store.sets c.in_ok-new.field-0 c.in-Some.engine c.in_ok-new.ensures c.in-Some.is) r.ensures.engine e.fixed
+
+pub search-requires-clause-full : goal.search-requires-clause-full
+search-requires-clause-full c = let e = c.in_ok-posted.ensures in subst NoneEmpty e.sets e.live
