@@ -4,6 +4,7 @@ use Rattle.std.proofs.Common.{◌⊎◌, inl, inr}
 use Rattle.std.proofs.lemmas.Bool.{cases_lt}
 use Rattle.un_isa.specs.declared.op.Op.{Op}
 use Rattle.un_isa.specs.declared.op.Op.TheVariants.{Imm, Store, Jump, JumpIf, JumpIfNot, Jumpr, Spill, Enter, Leave, Nop}
+use Rattle.un_isa.specs.declared.reg.TheConstants.{REGISTERS}
 use Rattle.un_isa.specs.Starts.{is_clobbered}
 use Rattle.un_isa.specs.Tables.{number_of, latency_of, in_mask}
 use Rattle.un_isa.specs.Facts.{class_of, latency_by}
@@ -61,9 +62,9 @@ hexagon_entries = record {
   latencies = latencies;
   needs = needs;
   clobbered = λ r h. agree_same (in_mask HEXAGON.clobbered r) (is_clobbered r)
-      (below_holds (λ r. agree (in_mask HEXAGON.clobbered r) (is_clobbered r)) 36 refl r h);
+      (below_holds (λ r. agree (in_mask HEXAGON.clobbered r) (is_clobbered r)) REGISTERS refl r h);
   saved = λ r h. agree_same (in_mask HEXAGON.saved r) (is_saved r)
-      (below_holds (λ r. agree (in_mask HEXAGON.saved r) (is_saved r)) 36 refl r h);
+      (below_holds (λ r. agree (in_mask HEXAGON.saved r) (is_saved r)) REGISTERS refl r h);
   no_others = (lit< tt, lit< tt);
   args = refl;
   result = refl;
@@ -91,10 +92,11 @@ hexagon_fit = record {
   needs = fit_needs;
   args = refl;
   result = refl;
-  kept = λ r h. so_holds (is_saved r) (in_mask HEXAGON.saved r) (below_holds (λ r. so (is_saved r) (in_mask HEXAGON.saved r)) 36 refl r h);
+  kept = λ r h. so_holds (is_saved r) (in_mask HEXAGON.saved r)
+      (below_holds (λ r. so (is_saved r) (in_mask HEXAGON.saved r)) REGISTERS refl r h);
   saved = λ r h. so_holds (in_mask HEXAGON.saved r) (may_be_saved r)
-      (below_holds (λ r. so (in_mask HEXAGON.saved r) (may_be_saved r)) 36 refl r h);
+      (below_holds (λ r. so (in_mask HEXAGON.saved r) (may_be_saved r)) REGISTERS refl r h);
   clobbered = λ r h. agree_same (in_mask HEXAGON.clobbered r) (is_clobbered r && not (in_mask HEXAGON.saved r))
-      (below_holds (λ r. agree (in_mask HEXAGON.clobbered r) (is_clobbered r && not (in_mask HEXAGON.saved r))) 36 refl r h);
+      (below_holds (λ r. agree (in_mask HEXAGON.clobbered r) (is_clobbered r && not (in_mask HEXAGON.saved r))) REGISTERS refl r h);
   no_others = (lit< tt, lit< tt);
 }

@@ -8,7 +8,7 @@ use Rattle.un_isa.specs.declared.op.Op.{Op}
 use Rattle.un_isa.specs.declared.op.Op.TheVariants.{Imm, Mov, Add, Sub, And, Or, Xor, Addi, Andi, Ori, Mux, CmpEq, CmpGt, CmpGtu, CmpEqi}
 use Rattle.un_isa.specs.declared.op.Op.TheVariants.{CmpGti, Mpyi, Asl, Asr, Lsr, Load, Store, Call, Jump, JumpIf, JumpIfNot, Jumpr, Spill}
 use Rattle.un_isa.specs.declared.op.Op.TheVariants.{Reload, P2R, R2P, Enter, Leave, Nop}
-use Rattle.un_isa.specs.declared.reg.TheConstants.{FRAME}
+use Rattle.un_isa.specs.declared.reg.TheConstants.{FRAME, FIRST_SLOT, REGISTERS}
 use Rattle.un_isa.specs.declared.reg.Space.{Space}
 use Rattle.un_isa.specs.declared.reg.Space.TheVariants.{R, P, M}
 use Rattle.un_isa.specs.declared.reg.Reg.{Reg}
@@ -40,17 +40,17 @@ use Rattle.un_listing.proofs.InstrWords.{returned_words, stack_says}
 -- ---- registers by their spaces
 
 pub general : (n : ℕ) → space_of n ≡ R → n < 32
-general n e = by (nat_lt n 32) (nat_lt n 36) refl e
+general n e = by (nat_lt n 32) (nat_lt n FIRST_SLOT) refl e
   where
     by : (u v : Bool) → nat_lt n 32 ≡ u → (if u then R else if v then P else M) ≡ R → n < 32
     by true v h k = grind (arith, nat_tests)
     by false true h k = absurd (cc k)
     by false false h k = absurd (cc k)
 
-pub predicate : (n : ℕ) → space_of n ≡ P → (32 ≤ n) × (n < 36)
-predicate n e = by (nat_lt n 32) (nat_lt n 36) refl refl e
+pub predicate : (n : ℕ) → space_of n ≡ P → (32 ≤ n) × (n < REGISTERS)
+predicate n e = by (nat_lt n 32) (nat_lt n FIRST_SLOT) refl refl e
   where
-    by : (u v : Bool) → nat_lt n 32 ≡ u → nat_lt n 36 ≡ v → (if u then R else if v then P else M) ≡ P → (32 ≤ n) × (n < 36)
+    by : (u v : Bool) → nat_lt n 32 ≡ u → nat_lt n FIRST_SLOT ≡ v → (if u then R else if v then P else M) ≡ P → (32 ≤ n) × (n < REGISTERS)
     by true v h g k = absurd (cc k)
     by false true h g k = (grind (arith, nat_tests), grind (arith, nat_tests))
     by false false h g k = absurd (cc k)
@@ -68,7 +68,7 @@ record IsMnemonic (op : Op) (form : Form) (ops : List Op) : Type 0 where
   other : bytes_eq (printed_name op) (codes "memw") ≡ false
   found : op_with ops (printed_name op) ≡ Some op
 
-two_back : (op : Op) → IsMnemonic op Computed computed_ops → (d a b : Reg) → d.0 < 36 → a.0 < 36 → b.0 < 36
+two_back : (op : Op) → IsMnemonic op Computed computed_ops → (d a b : Reg) → d.0 < REGISTERS → a.0 < REGISTERS → b.0 < REGISTERS
     → instr_of (reg_word d ∷ Named (printed_name op) ∷ reg_word a ∷ reg_word b ∷ [])
     ≡ Some (record { op = op; dst = Some d; srcs = a ∷ b ∷ []; imm = pos 0; label = None })
 two_back op m d a b hd ha hb =
@@ -79,7 +79,8 @@ two_back op m d a b hd ha hb =
     let found : op_of ws ≡ Some op = rw (rd, m.reg, m.other) m.found in
     ap (option_map (λ op. instr_with op ws)) found ∙ rw (m.printed, rd, ra, rb) refl
 
-three_back : (op : Op) → IsMnemonic op Computed computed_ops → (d a b e : Reg) → d.0 < 36 → a.0 < 36 → b.0 < 36 → e.0 < 36
+three_back : (op : Op) → IsMnemonic op Computed computed_ops → (d a b e : Reg) → d.0 < REGISTERS → a.0 < REGISTERS → b.0 < REGISTERS
+    → e.0 < REGISTERS
     → instr_of (reg_word d ∷ Named (printed_name op) ∷ reg_word a ∷ reg_word b ∷ reg_word e ∷ [])
     ≡ Some (record { op = op; dst = Some d; srcs = a ∷ b ∷ e ∷ []; imm = pos 0; label = None })
 three_back op m d a b e hd ha hb he =
@@ -91,7 +92,8 @@ three_back op m d a b e hd ha hb he =
     let found : op_of ws ≡ Some op = rw (rd, m.reg, m.other) m.found in
     ap (option_map (λ op. instr_with op ws)) found ∙ rw (m.printed, rd, ra, rb, re) refl
 
-with_literal_back : (op : Op) → IsMnemonic op WithLiteral literal_ops → (d a : Reg) (z : ℤ) → d.0 < 36 → a.0 < 36 → is_stack d ≡ false
+with_literal_back : (op : Op) → IsMnemonic op WithLiteral literal_ops → (d a : Reg) (z : ℤ) → d.0 < REGISTERS → a.0 < REGISTERS
+    → is_stack d ≡ false
     → instr_of (reg_word d ∷ Named (printed_name op) ∷ reg_word a ∷ Literal z ∷ [])
     ≡ Some (record { op = op; dst = Some d; srcs = a ∷ []; imm = z; label = None })
 with_literal_back op m d a z hd ha other =
@@ -124,7 +126,7 @@ IsBack i = instr_of (words_of (instr_text i)) ≡ Some i
 abbrev instr : Op → Option Reg → List Reg → ℤ → Option (List ℕ) → Instr
 instr op dst srcs imm label = record { op = op; dst = dst; srcs = srcs; imm = imm; label = label }
 
-pub below : (n : ℕ) (s : Space) → s ≢ M → space_of n ≡ s → n < 36
+pub below : (n : ℕ) (s : Space) → s ≢ M → space_of n ≡ s → n < REGISTERS
 below n R h e = let k = general n e in omega arith
 below n P h e = (predicate n e).1
 below n M h e = absurd (h refl)
@@ -141,9 +143,9 @@ two_op op s m h (Some d) [] imm label w r l n = absurd (cc r)
 two_op op s m h (Some d) (a ∷ []) imm label w r l n = absurd (cc r)
 two_op op s m h (Some d) (a ∷ b ∷ c ∷ more) imm label w r l n = absurd (cc r)
 two_op op s m h (Some d) (a ∷ b ∷ []) imm label w r l n =
-    let hd : d.0 < 36 = below d.0 s h (cc) in
-    let ha : a.0 < 36 = below a.0 R (λ e. cc e) (cc) in
-    let hb : b.0 < 36 = below b.0 R (λ e. cc e) (cc) in
+    let hd : d.0 < REGISTERS = below d.0 s h (cc) in
+    let ha : a.0 < REGISTERS = below a.0 R (λ e. cc e) (cc) in
+    let hb : b.0 < REGISTERS = below b.0 R (λ e. cc e) (cc) in
     rw (l, n) (ap (λ f. instr_of (words_of (text_in f (instr op (Some d) (a ∷ b ∷ []) (pos 0) None)))) m.printed
     ∙ ap instr_of (computed_words d (printed_name op) (a ∷ b ∷ []) hd m.name (ha, (hb, tt)))
     ∙ two_back op m d a b hd ha hb)
@@ -156,8 +158,8 @@ with_literal_op op s range m h None srcs imm label w o r l n = absurd (cc w)
 with_literal_op op s range m h (Some d) [] imm label w o r l n = absurd (cc r)
 with_literal_op op s range m h (Some d) (a ∷ b ∷ more) imm label w o r l n = absurd (cc r)
 with_literal_op op s range m h (Some d) (a ∷ []) imm label w o r l n =
-    let hd : d.0 < 36 = below d.0 s h (cc) in
-    let ha : a.0 < 36 = below a.0 R (λ e. cc e) (cc) in
+    let hd : d.0 < REGISTERS = below d.0 s h (cc) in
+    let ha : a.0 < REGISTERS = below a.0 R (λ e. cc e) (cc) in
     let other : is_stack d ≡ false = ne_eqb d.0 29 (λ e. o (ap (λ (k : ℕ). let reg : Reg = record { 0 = k } in Some reg) e)) in
     rw n (ap (λ f. instr_of (words_of (text_in f (instr op (Some d) (a ∷ []) imm None)))) m.printed
     ∙ ap instr_of (with_literal_words d a (printed_name op) imm hd ha m.name (small_literal range imm l))
@@ -172,10 +174,10 @@ mux_op (Some d) (a ∷ []) imm label w r l n = absurd (cc r)
 mux_op (Some d) (a ∷ b ∷ []) imm label w r l n = absurd (cc r)
 mux_op (Some d) (a ∷ b ∷ e ∷ c ∷ more) imm label w r l n = absurd (cc r)
 mux_op (Some d) (a ∷ b ∷ e ∷ []) imm label w r l n =
-    let hd : d.0 < 36 = below d.0 R (λ e. cc e) (cc) in
-    let ha : a.0 < 36 = below a.0 P (λ e. cc e) (cc) in
-    let hb : b.0 < 36 = below b.0 R (λ e. cc e) (cc) in
-    let he : e.0 < 36 = below e.0 R (λ e. cc e) (cc) in
+    let hd : d.0 < REGISTERS = below d.0 R (λ e. cc e) (cc) in
+    let ha : a.0 < REGISTERS = below a.0 P (λ e. cc e) (cc) in
+    let hb : b.0 < REGISTERS = below b.0 R (λ e. cc e) (cc) in
+    let he : e.0 < REGISTERS = below e.0 R (λ e. cc e) (cc) in
     let m : IsMnemonic Mux Computed computed_ops = record { printed = refl; name = refl; reg = refl; other = refl; found = refl } in
     rw (l, n) (ap instr_of (computed_words d (codes "mux") (a ∷ b ∷ e ∷ []) hd refl (ha, (hb, (he, tt))))
     ∙ three_back Mux m d a b e hd ha hb he)
@@ -186,7 +188,7 @@ imm_op : (dst : Option Reg) (srcs : List Reg) (imm : ℤ) (label : Option (List 
 imm_op None srcs imm label w r l n = absurd (cc w)
 imm_op (Some d) (a ∷ more) imm label w r l n = absurd (cc r)
 imm_op (Some d) [] imm label w r l n =
-    let hd : d.0 < 36 = below d.0 R (λ e. cc e) (cc) in
+    let hd : d.0 < REGISTERS = below d.0 R (λ e. cc e) (cc) in
     rw n (ap instr_of (literal_words d imm hd (small_literal Signed16 imm l)) ∙ rw ((reg_back d hd).reg) refl)
 
 -- ---- copies
@@ -206,8 +208,8 @@ mov_op (Some d) (a ∷ b ∷ more) imm label w r l n = absurd (cc r)
 mov_op (Some d) (a ∷ []) imm label w r l n =
     let sd : space_of d.0 ≡ R = cc in
     let sa : space_of a.0 ≡ R = cc in
-    let hd : d.0 < 36 = below d.0 R (λ e. cc e) sd in
-    let ha : a.0 < 36 = below a.0 R (λ e. cc e) sa in
+    let hd : d.0 < REGISTERS = below d.0 R (λ e. cc e) sd in
+    let ha : a.0 < REGISTERS = below a.0 R (λ e. cc e) sa in
     let ws : List Word = reg_word d ∷ reg_word a ∷ [] in
     let found : op_of ws ≡ Some Mov = rw ((reg_back d hd).reg, (reg_back a ha).reg, is_general_of d.0 sd, is_general_of a.0 sa) refl in
     rw (l, n) (ap instr_of (copied_words d a hd ha) ∙ ap (option_map (λ op. instr_with op ws)) found
@@ -222,8 +224,8 @@ p2r_op (Some d) (a ∷ b ∷ more) imm label w r l n = absurd (cc r)
 p2r_op (Some d) (a ∷ []) imm label w r l n =
     let sd : space_of d.0 ≡ R = cc in
     let sa : space_of a.0 ≡ P = cc in
-    let hd : d.0 < 36 = below d.0 R (λ e. cc e) sd in
-    let ha : a.0 < 36 = below a.0 P (λ e. cc e) sa in
+    let hd : d.0 < REGISTERS = below d.0 R (λ e. cc e) sd in
+    let ha : a.0 < REGISTERS = below a.0 P (λ e. cc e) sa in
     let ws : List Word = reg_word d ∷ reg_word a ∷ [] in
     let found : op_of ws ≡ Some P2R = rw ((reg_back d hd).reg, (reg_back a ha).reg, is_general_of d.0 sd, not_general_of a.0 sa) refl in
     rw (l, n) (ap instr_of (copied_words d a hd ha) ∙ ap (option_map (λ op. instr_with op ws)) found
@@ -238,8 +240,8 @@ r2p_op (Some d) (a ∷ b ∷ more) imm label w r l n = absurd (cc r)
 r2p_op (Some d) (a ∷ []) imm label w r l n =
     let sd : space_of d.0 ≡ P = cc in
     let sa : space_of a.0 ≡ R = cc in
-    let hd : d.0 < 36 = below d.0 P (λ e. cc e) sd in
-    let ha : a.0 < 36 = below a.0 R (λ e. cc e) sa in
+    let hd : d.0 < REGISTERS = below d.0 P (λ e. cc e) sd in
+    let ha : a.0 < REGISTERS = below a.0 R (λ e. cc e) sa in
     let ws : List Word = reg_word d ∷ reg_word a ∷ [] in
     let found : op_of ws ≡ Some R2P = rw ((reg_back d hd).reg, (reg_back a ha).reg, not_general_of d.0 sd) refl in
     rw (l, n) (ap instr_of (copied_words d a hd ha) ∙ ap (option_map (λ op. instr_with op ws)) found
@@ -257,8 +259,8 @@ load_op None srcs imm label w o r l n = absurd (cc w)
 load_op (Some d) [] imm label w o r l n = absurd (cc r)
 load_op (Some d) (a ∷ b ∷ more) imm label w o r l n = absurd (cc r)
 load_op (Some d) (a ∷ []) imm label w o r l n =
-    let hd : d.0 < 36 = below d.0 R (λ e. cc e) (cc) in
-    let ha : a.0 < 36 = below a.0 R (λ e. cc e) (cc) in
+    let hd : d.0 < REGISTERS = below d.0 R (λ e. cc e) (cc) in
+    let ha : a.0 < REGISTERS = below a.0 R (λ e. cc e) (cc) in
     rw n (ap instr_of (loaded_words d (reg_text a) (reg_word a) imm hd (reg_back a ha).says (small_literal Offset imm l))
     ∙ rw ((reg_back d hd).reg, (reg_back a ha).reg, not_stack a o) (rw (reg_back a ha).reg refl))
 
@@ -268,7 +270,7 @@ reload_op : (dst : Option Reg) (srcs : List Reg) (imm : ℤ) (label : Option (Li
 reload_op None srcs imm label w r l n = absurd (cc w)
 reload_op (Some d) (a ∷ more) imm label w r l n = absurd (cc r)
 reload_op (Some d) [] imm label w r l n =
-    let hd : d.0 < 36 = below d.0 R (λ e. cc e) (cc) in
+    let hd : d.0 < REGISTERS = below d.0 R (λ e. cc e) (cc) in
     rw n (ap instr_of (loaded_words d (codes "r29") (Named (codes "r29")) imm hd stack_says (small_literal FrameOffset imm l))
     ∙ rw ((reg_back d hd).reg) refl)
 
@@ -280,8 +282,8 @@ store_op None [] imm label w o r l n = absurd (cc r)
 store_op None (a ∷ []) imm label w o r l n = absurd (cc r)
 store_op None (a ∷ b ∷ c ∷ more) imm label w o r l n = absurd (cc r)
 store_op None (a ∷ b ∷ []) imm label w o r l n =
-    let ha : a.0 < 36 = below a.0 R (λ e. cc e) (cc) in
-    let hb : b.0 < 36 = below b.0 R (λ e. cc e) (cc) in
+    let ha : a.0 < REGISTERS = below a.0 R (λ e. cc e) (cc) in
+    let hb : b.0 < REGISTERS = below b.0 R (λ e. cc e) (cc) in
     rw n (ap instr_of (stored_words (reg_text a) (reg_word a) b imm (reg_back a ha).says hb (small_literal Offset imm l))
     ∙ rw ((reg_back a ha).reg, not_stack a o) (rw ((reg_back a ha).reg, (reg_back b hb).reg) refl))
 
@@ -292,7 +294,7 @@ spill_op (Some d) srcs imm label w r l n = absurd (cc w)
 spill_op None [] imm label w r l n = absurd (cc r)
 spill_op None (a ∷ b ∷ more) imm label w r l n = absurd (cc r)
 spill_op None (a ∷ []) imm label w r l n =
-    let ha : a.0 < 36 = below a.0 R (λ e. cc e) (cc) in
+    let ha : a.0 < REGISTERS = below a.0 R (λ e. cc e) (cc) in
     rw n (ap instr_of (stored_words (codes "r29") (Named (codes "r29")) a imm stack_says ha (small_literal FrameOffset imm l))
     ∙ rw ((reg_back a ha).reg) refl)
 
@@ -325,7 +327,7 @@ no_literal : (srcs : List Reg) → literal_of_words (map reg_word srcs) ≡ pos 
 no_literal [] = refl
 no_literal (r ∷ rs) = no_literal rs
 
-pub counted : (k : ℕ) (srcs : List Reg) → map number srcs ≡ range_with_len k (length srcs) → k + length srcs ≤ 36 → AreRegs srcs
+pub counted : (k : ℕ) (srcs : List Reg) → map number srcs ≡ range_with_len k (length srcs) → k + length srcs ≤ REGISTERS → AreRegs srcs
 counted k [] e h = tt
 counted k (r ∷ rs) e h =
     let first : r.0 ≡ k = cc e in
@@ -357,7 +359,7 @@ jump_if_op None [] imm label w r l n = absurd (cc r)
 jump_if_op None (a ∷ b ∷ more) imm label w r l n = absurd (cc r)
 jump_if_op None (a ∷ []) imm None w r l n = absurd n
 jump_if_op None (a ∷ []) imm (Some label) w r l n =
-    let ha : a.0 < 36 = below a.0 P (λ e. cc e) (cc) in
+    let ha : a.0 < REGISTERS = below a.0 P (λ e. cc e) (cc) in
     rw l (ap instr_of (jumped_if_words a label ha n) ∙ rw ((reg_back a ha).reg) refl)
 
 jump_if_not_op : (dst : Option Reg) (srcs : List Reg) (imm : ℤ) (label : Option (List ℕ))
@@ -368,7 +370,7 @@ jump_if_not_op None [] imm label w r l n = absurd (cc r)
 jump_if_not_op None (a ∷ b ∷ more) imm label w r l n = absurd (cc r)
 jump_if_not_op None (a ∷ []) imm None w r l n = absurd n
 jump_if_not_op None (a ∷ []) imm (Some label) w r l n =
-    let ha : a.0 < 36 = below a.0 P (λ e. cc e) (cc) in
+    let ha : a.0 < REGISTERS = below a.0 P (λ e. cc e) (cc) in
     rw l (ap instr_of (jumped_if_not_words a label ha n))
 
 jumpr_op : (dst : Option Reg) (srcs : List Reg) (imm : ℤ) (label : Option (List ℕ))
@@ -378,7 +380,7 @@ jumpr_op (Some d) srcs imm label w r l n = absurd (cc w)
 jumpr_op None [] imm label w r l n = absurd (cc r)
 jumpr_op None (a ∷ b ∷ more) imm label w r l n = absurd (cc r)
 jumpr_op None (a ∷ []) imm label w r l n =
-    let ha : a.0 < 36 = below a.0 R (λ e. cc e) (cc) in
+    let ha : a.0 < REGISTERS = below a.0 R (λ e. cc e) (cc) in
     rw (l, n) (ap instr_of (returned_words a ha) ∙ rw ((reg_back a ha).reg) refl)
 
 nop_op : (dst : Option Reg) (srcs : List Reg) (imm : ℤ) (label : Option (List ℕ))

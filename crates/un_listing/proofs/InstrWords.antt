@@ -5,6 +5,7 @@ use Rattle.std.specs.List.{flat_map}
 use Rattle.std.specs.Fmt.{signed_decimal}
 use Rattle.un_base.specs.Names.{is_name}
 use Rattle.un_isa.specs.declared.reg.Reg.{Reg}
+use Rattle.un_isa.specs.declared.reg.TheConstants.{REGISTERS}
 use Rattle.un_listing.specs.declared.word.Word.{Word}
 use Rattle.un_listing.specs.declared.word.Word.TheVariants.{Named, Literal, Negated}
 use Rattle.un_listing.specs.Listing.{joined, reg_text}
@@ -17,9 +18,9 @@ reg_word r = Named (reg_text r)
 -- every register of the list is one of the processor
 abbrev pub AreRegs : List Reg → Type 0
 AreRegs [] = Unit {0}
-AreRegs (r ∷ rs) = (r.0 < 36) × AreRegs rs
+AreRegs (r ∷ rs) = (r.0 < REGISTERS) × AreRegs rs
 
-reg_then : (r : Reg) → r.0 < 36 → (rest : List ℕ) → stops rest ≡ true → words_of (reg_text r ++ rest) ≡ reg_word r ∷ words_of rest
+reg_then : (r : Reg) → r.0 < REGISTERS → (rest : List ℕ) → stops rest ≡ true → words_of (reg_text r ++ rest) ≡ reg_word r ∷ words_of rest
 reg_then r h rest stop = first_word (reg_text r) (reg_word r) (reg_back r h).says rest stop
 
 more_stop : (rs : List Reg) (rest : List ℕ) → stops rest ≡ true → stops (flat_map (λ (r : Reg). codes "," ++ reg_text r) rs ++ rest) ≡ true
@@ -47,7 +48,7 @@ operand_words (r ∷ rs) rest regs stop =
 only_word : (text : List ℕ) (w : Word) → Says text w → words_of text ≡ w ∷ []
 only_word text w says = sym (ap words_of (append-nil text)) ∙ first_word text w says [] refl
 
-reg_end : (r : Reg) → r.0 < 36 → words_of (reg_text r) ≡ reg_word r ∷ []
+reg_end : (r : Reg) → r.0 < REGISTERS → words_of (reg_text r) ≡ reg_word r ∷ []
 reg_end r h = only_word (reg_text r) (reg_word r) (reg_back r h).says
 
 literal_then : (z : ℤ) → unsigned_abs z ≤ 65535 → (rest : List ℕ) → stops rest ≡ true
@@ -62,20 +63,21 @@ and_then w x y e = ap (λ (ws : List Word). w ∷ ws) e
 
 -- ---- forms
 
-pub literal_words : (d : Reg) (z : ℤ) → d.0 < 36 → unsigned_abs z ≤ 65535
+pub literal_words : (d : Reg) (z : ℤ) → d.0 < REGISTERS → unsigned_abs z ≤ 65535
     → words_of (reg_text d ++ codes " = " ++ (codes "#" ++ signed_decimal z)) ≡ reg_word d ∷ Literal z ∷ []
 literal_words d z hd hz =
     ap words_of (append_assoc (reg_text d) (codes " = ") (codes "#" ++ signed_decimal z))
     ∙ reg_then d hd (codes " = " ++ (codes "#" ++ signed_decimal z)) refl
     ∙ and_then (reg_word d) _ _ (literal_end z hz)
 
-pub copied_words : (d a : Reg) → d.0 < 36 → a.0 < 36 → words_of (reg_text d ++ codes " = " ++ reg_text a) ≡ reg_word d ∷ reg_word a ∷ []
+pub copied_words : (d a : Reg) → d.0 < REGISTERS → a.0 < REGISTERS
+    → words_of (reg_text d ++ codes " = " ++ reg_text a) ≡ reg_word d ∷ reg_word a ∷ []
 copied_words d a hd ha =
     ap words_of (append_assoc (reg_text d) (codes " = ") (reg_text a))
     ∙ reg_then d hd (codes " = " ++ reg_text a) refl
     ∙ and_then (reg_word d) _ _ (reg_end a ha)
 
-pub computed_words : (d : Reg) (m : List ℕ) (srcs : List Reg) → d.0 < 36 → is_name m ≡ true → AreRegs srcs
+pub computed_words : (d : Reg) (m : List ℕ) (srcs : List Reg) → d.0 < REGISTERS → is_name m ≡ true → AreRegs srcs
     → words_of (reg_text d ++ codes " = " ++ m ++ (codes "(" ++ joined (codes ",") reg_text srcs ++ codes ")"))
     ≡ reg_word d ∷ Named m ∷ map reg_word srcs
 computed_words d m srcs hd hm hs =
@@ -87,7 +89,7 @@ computed_words d m srcs hd hm hs =
     tail : List ℕ
     tail = codes "(" ++ joined (codes ",") reg_text srcs ++ codes ")"
 
-pub with_literal_words : (d a : Reg) (m : List ℕ) (z : ℤ) → d.0 < 36 → a.0 < 36 → is_name m ≡ true → unsigned_abs z ≤ 65535
+pub with_literal_words : (d a : Reg) (m : List ℕ) (z : ℤ) → d.0 < REGISTERS → a.0 < REGISTERS → is_name m ≡ true → unsigned_abs z ≤ 65535
     → words_of (reg_text d ++ codes " = " ++ m ++ codes "(" ++ reg_text a ++ codes "," ++ (codes "#" ++ signed_decimal z) ++ codes ")")
     ≡ reg_word d ∷ Named m ∷ reg_word a ∷ Literal z ∷ []
 with_literal_words d a m z hd ha hm hz = simp append_assoc (
@@ -118,7 +120,7 @@ word_end base w z says hz =
 pub stack_says : Says (codes "r29") (Named (codes "r29"))
 stack_says = name_says (codes "r29") refl
 
-pub loaded_words : (d : Reg) (base : List ℕ) (w : Word) (z : ℤ) → d.0 < 36 → Says base w → unsigned_abs z ≤ 65535
+pub loaded_words : (d : Reg) (base : List ℕ) (w : Word) (z : ℤ) → d.0 < REGISTERS → Says base w → unsigned_abs z ≤ 65535
     → words_of (reg_text d ++ codes " = " ++ (codes "memw(" ++ base ++ codes "+" ++ (codes "#" ++ signed_decimal z) ++ codes ")"))
     ≡ reg_word d ∷ Named (codes "memw") ∷ w ∷ Literal z ∷ []
 loaded_words d base w z hd says hz =
@@ -129,7 +131,7 @@ loaded_words d base w z hd says hz =
     text : List ℕ
     text = codes "memw(" ++ base ++ codes "+" ++ (codes "#" ++ signed_decimal z) ++ codes ")"
 
-pub stored_words : (base : List ℕ) (w : Word) (b : Reg) (z : ℤ) → Says base w → b.0 < 36 → unsigned_abs z ≤ 65535
+pub stored_words : (base : List ℕ) (w : Word) (b : Reg) (z : ℤ) → Says base w → b.0 < REGISTERS → unsigned_abs z ≤ 65535
     → words_of ((codes "memw(" ++ base ++ codes "+" ++ (codes "#" ++ signed_decimal z) ++ codes ")") ++ codes " = " ++ reg_text b)
     ≡ Named (codes "memw") ∷ w ∷ Literal z ∷ reg_word b ∷ []
 stored_words base w b z says hb hz =
@@ -158,7 +160,7 @@ label_end label hl = only_word label (Named label) (name_says label hl)
 pub jumped_words : (label : List ℕ) → is_name label ≡ true → words_of (codes "jump " ++ label) ≡ Named (codes "jump") ∷ Named label ∷ []
 jumped_words label hl = and_then (Named (codes "jump")) _ _ (label_end label hl)
 
-pub jumped_if_words : (p : Reg) (label : List ℕ) → p.0 < 36 → is_name label ≡ true
+pub jumped_if_words : (p : Reg) (label : List ℕ) → p.0 < REGISTERS → is_name label ≡ true
     → words_of (codes "if (" ++ reg_text p ++ codes ") jump " ++ label)
     ≡ Named (codes "if") ∷ reg_word p ∷ Named (codes "jump") ∷ Named label ∷ []
 jumped_if_words p label hp hl =
@@ -166,7 +168,7 @@ jumped_if_words p label hp hl =
     ∙ reg_then p hp (codes ") jump " ++ label) refl
     ∙ and_then (reg_word p) _ _ (and_then (Named (codes "jump")) _ _ (label_end label hl)))
 
-pub jumped_if_not_words : (p : Reg) (label : List ℕ) → p.0 < 36 → is_name label ≡ true
+pub jumped_if_not_words : (p : Reg) (label : List ℕ) → p.0 < REGISTERS → is_name label ≡ true
     → words_of (codes "if (!" ++ reg_text p ++ codes ") jump " ++ label)
     ≡ Named (codes "if") ∷ Negated p ∷ Named (codes "jump") ∷ Named label ∷ []
 jumped_if_not_words p label hp hl =
@@ -174,7 +176,7 @@ jumped_if_not_words p label hp hl =
     ∙ first_word (33 ∷ reg_text p) (Negated p) (negated_says (reg_text p) p (reg_back p hp)) (codes ") jump " ++ label) refl
     ∙ and_then (Negated p) _ _ (and_then (Named (codes "jump")) _ _ (label_end label hl)))
 
-pub returned_words : (a : Reg) → a.0 < 36 → words_of (codes "jumpr " ++ reg_text a) ≡ Named (codes "jumpr") ∷ reg_word a ∷ []
+pub returned_words : (a : Reg) → a.0 < REGISTERS → words_of (codes "jumpr " ++ reg_text a) ≡ Named (codes "jumpr") ∷ reg_word a ∷ []
 returned_words a ha = and_then (Named (codes "jumpr")) _ _ (reg_end a ha)
 
 pub idle_words : words_of (codes "nop") ≡ Named (codes "nop") ∷ []

@@ -13,6 +13,7 @@ use Rattle.std.proofs.lemmas.Str.Parse.{IsNumeralModel, numerals_by_fold}
 use Rattle.un_base.specs.Names.{is_first, is_rest, is_name}
 use Rattle.un_base.specs.Decimals.{value_after, value_of}
 use Rattle.un_isa.specs.declared.reg.Reg.{Reg}
+use Rattle.un_isa.specs.declared.reg.TheConstants.{REGISTERS}
 use Rattle.un_words.specs.Tokens.{digits_of, number_of}
 use Rattle.un_listing.specs.declared.word.Word.{Word}
 use Rattle.un_listing.specs.declared.word.Word.TheVariants.{Named, Literal, Negated}
@@ -208,7 +209,7 @@ predicate_text n h =
     }
 
 -- a register is read back
-pub reg_back : (r : Reg) → r.0 < 36 → IsRegText (reg_text r) r
+pub reg_back : (r : Reg) → r.0 < REGISTERS → IsRegText (reg_text r) r
 reg_back r h = by (nat_lt r.0 32) refl
   where
     by : (v : Bool) → nat_lt r.0 32 ≡ v → IsRegText (if v then 114 ∷ decimal r.0 else 112 ∷ decimal (r.0 - 32)) r

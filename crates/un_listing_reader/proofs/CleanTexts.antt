@@ -8,7 +8,7 @@ use Rattle.std.proofs.lemmas.Bool.{and_parts}
 use Rattle.un_base.specs.Names.{is_name}
 use Rattle.un_isa.specs.declared.op.Op.{Op}
 use Rattle.un_isa.specs.declared.op.Op.TheVariants.{Add, Store, Call, Jump, JumpIf, JumpIfNot, Jumpr, Spill, Enter, Leave, Nop}
-use Rattle.un_isa.specs.declared.reg.TheConstants.{FRAME}
+use Rattle.un_isa.specs.declared.reg.TheConstants.{FRAME, REGISTERS}
 use Rattle.un_isa.specs.declared.reg.Space.{Space}
 use Rattle.un_isa.specs.declared.reg.Space.TheVariants.{R, P, M}
 use Rattle.un_isa.specs.declared.reg.Reg.{Reg}
@@ -47,14 +47,14 @@ inner_clean b h = rw (other_byte (λ b. not (is_between b)) b 59 h refl, other_b
 pub says_clean : (text : List ℕ) (w : Word) → Says text w → IsClean text
 says_clean text w says = all_weaker (λ b. not (is_between b)) is_clean inner_clean text says.inner
 
-reg_clean : (r : Reg) → r.0 < 36 → IsClean (reg_text r)
+reg_clean : (r : Reg) → r.0 < REGISTERS → IsClean (reg_text r)
 reg_clean r h = says_clean (reg_text r) _ (reg_back r h).says
 
 -- ---- what the parts of an instruction may be
 
 -- registers of the processor, a small number, and a name
 record IsTame (i : Instr) : Type 0 where
-  result : IfSome i.dst (λ r. r.0 < 36)
+  result : IfSome i.dst (λ r. r.0 < REGISTERS)
   operands : AreRegs i.srcs
   literal : unsigned_abs i.imm ≤ 65535
   label : IfSome i.label (λ l. is_name l ≡ true)
@@ -64,7 +64,7 @@ is_home R = true
 is_home P = true
 is_home M = false
 
-home : (n : ℕ) (s : Space) → is_home s ≡ true → space_of n ≡ s → n < 36
+home : (n : ℕ) (s : Space) → is_home s ≡ true → space_of n ≡ s → n < REGISTERS
 home n s h e = below n s (λ m. by s m h) e
   where
     by : (s : Space) → s ≡ M → is_home s ≡ true → ⊥
@@ -85,12 +85,12 @@ reads_regs Call srcs r = let few = r.1 in counted 0 srcs r.0 (omega arith)
 reads_regs op srcs r = are_home (operand_spaces op) srcs refl r
 
 result_home : (dst : Option Reg) (space : Option Space) → IfSome space (λ s. is_home s ≡ true)
-    → option_map (λ (r : Reg). space_of r.0) dst ≡ space → IfSome dst (λ r. r.0 < 36)
+    → option_map (λ (r : Reg). space_of r.0) dst ≡ space → IfSome dst (λ r. r.0 < REGISTERS)
 result_home None space h e = tt
 result_home (Some r) None h e = absurd (cc e)
 result_home (Some r) (Some s) h e = home r.0 s h (cc e)
 
-writes_reg : (op : Op) (dst : Option Reg) → WritesItsSpace op dst → IfSome dst (λ r. r.0 < 36)
+writes_reg : (op : Op) (dst : Option Reg) → WritesItsSpace op dst → IfSome dst (λ r. r.0 < REGISTERS)
 writes_reg Call None w = tt
 writes_reg Call (Some r) w = absurd (cc w)
 writes_reg op dst w = result_home dst (result_space op) (by op) w
@@ -135,7 +135,7 @@ tame frame small i g = record {
 
 -- ---- texts
 
-some_reg_clean : (dst : Option Reg) → IfSome dst (λ r. r.0 < 36) → IsClean (some_reg_text dst)
+some_reg_clean : (dst : Option Reg) → IfSome dst (λ r. r.0 < REGISTERS) → IsClean (some_reg_text dst)
 some_reg_clean None h = refl
 some_reg_clean (Some r) h = reg_clean r h
 

@@ -11,7 +11,7 @@ use Rattle.un_isa.specs.declared.op.Op.TheVariants.{Call, Enter, Leave}
 use Rattle.un_isa.specs.declared.reg.Reg.{Reg}
 use Rattle.un_isa.specs.declared.reg.Space.{Space}
 use Rattle.un_isa.specs.declared.reg.Space.TheVariants.{R, P, M}
-use Rattle.un_isa.specs.declared.reg.TheConstants.{FRAME}
+use Rattle.un_isa.specs.declared.reg.TheConstants.{FRAME, FIRST_SLOT}
 use Rattle.un_isa.specs.declared.instr.Instr.{Instr}
 use Rattle.un_isa.specs.Registers.{space_of}
 use Rattle.un_packet.specs.declared.code.Packet.{Packet}
@@ -30,7 +30,7 @@ abbrev pub IsGeneral : Reg → Type 0
 IsGeneral r = space_of r.0 ≡ R
 
 low_general : (n : ℕ) → n < 6 → space_of n ≡ R
-low_general n low = by (nat_lt n 32) (nat_lt n 36) refl
+low_general n low = by (nat_lt n 32) (nat_lt n FIRST_SLOT) refl
   where
     by : (u v : Bool) → nat_lt n 32 ≡ u → (if u then R else if v then P else M) ≡ R
     by true v e = refl

@@ -13,6 +13,7 @@ use Rattle.std.proofs.lemmas.Option.{slice_get-get_or}
 use Rattle.un_base.specs.declared.ids.NameId.{NameId}
 use Rattle.un_isa.specs.declared.op.Op.{Op}
 use Rattle.un_isa.specs.declared.op.Op.TheVariants.{Store}
+use Rattle.un_isa.specs.declared.reg.TheConstants.{REGISTERS}
 use Rattle.un_isa.specs.declared.start.Start.{Start}
 use Rattle.un_isa.specs.declared.table.Table.{Table}
 use Rattle.un_ir.specs.declared.function.SrcOp.{SrcOp}
@@ -165,7 +166,7 @@ entry_param f name l = ∥∥₁_elim f.well_formed le_prop
 
 -- at most as many blocks are entered as for the source; the start has 36 registers
 pub linear_runs : (f : Function) (lists : List (List NameId)) (t : Table) (start : Start) (n : ℕ) → AreLive f.blocks lists
-    → length start.regs ≡ 36
+    → length start.regs ≡ REGISTERS
     → linear_run t (linear_blocks t (length f.names) lists 0 0 f.blocks) start n ≡ as_linear t start lists (source_run f start n)
 linear_runs f lists t start n live regs =
     let entry = get_or f.blocks 0 no_block in

@@ -13,6 +13,7 @@ use Rattle.un_isa.specs.declared.op.Op.{Op}
 use Rattle.un_isa.specs.declared.reg.Reg.{Reg}
 use Rattle.un_isa.specs.declared.reg.Space.{Space}
 use Rattle.un_isa.specs.declared.reg.Space.TheVariants.{R, P, M}
+use Rattle.un_isa.specs.declared.reg.TheConstants.{REGISTERS}
 use Rattle.un_isa.specs.declared.table.Table.{Table}
 use Rattle.un_ir.specs.declared.function.Term.TheVariants.{Fall, Jump, Branch, Ret}
 use Rattle.un_ir.specs.declared.extended.ExtKind.{ExtKind}
@@ -73,7 +74,7 @@ record Clobbered (t : Table) (reg : ℕ) (home : Option Reg) : Type 0 where
 
 module _ (t : Table) (fit : IsFit t) where
   -- no predicate register is saved
-  not_saved : (r : ℕ) → 32 ≤ r → r < 36 → not (in_mask t.saved r) ≡ true
+  not_saved : (r : ℕ) → 32 ≤ r → r < REGISTERS → not (in_mask t.saved r) ≡ true
   not_saved r lo hi = by (in_mask t.saved r) refl
     where
       by : (b : Bool) → in_mask t.saved r ≡ b → not b ≡ true
@@ -82,7 +83,7 @@ module _ (t : Table) (fit : IsFit t) where
           let two = (and_iff (nat_le 6 r) (nat_lt r 29)).1 (fit.saved r hi e) in
           let most = (lt_iff r 29).1 two.1 in absurd (omega arith)
 
-  predicates_clobbered : (r : ℕ) → 32 ≤ r → r < 36 → in_mask t.clobbered r ≡ true
+  predicates_clobbered : (r : ℕ) → 32 ≤ r → r < REGISTERS → in_mask t.clobbered r ≡ true
   predicates_clobbered r lo hi =
       let a : nat_lt r 16 ≡ false = grind (arith, nat_tests, lo) in
       let b : nat_eq r 28 ≡ false = grind (arith, nat_tests, lo) in

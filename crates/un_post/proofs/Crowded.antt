@@ -13,6 +13,7 @@ use Rattle.un_isa.specs.Registers.{callee_saved, saved_registers}
 use Rattle.un_isa.specs.Tables.{latency_of}
 use Rattle.un_isa.specs.declared.op.Op.{Op}
 use Rattle.un_isa.specs.declared.op.Op.TheVariants.{Call, Spill, Reload}
+use Rattle.un_isa.specs.declared.reg.TheConstants.{FIRST_SLOT}
 use Rattle.un_ir.specs.declared.extended.ExtKind.{ExtKind}
 use Rattle.un_ir.specs.declared.extended.ExtKind.TheVariants.{In, Out, Body, End, Copy, Enter, Leave}
 use Rattle.un_ir.specs.declared.extended.Operand.{Operand}
@@ -105,7 +106,7 @@ module _ (e : Ext) (o : Options) (x : List ℕ) (given : Given e o x)
     pub at : slice_get (saved_in r.owner) place ≡ Some temp
     pub reg : ℕ
     pub is : register_of ranges temp ≡ Some reg
-    pub slot : 36 ≤ reg
+    pub slot : FIRST_SLOT ≤ reg
 
   -- a copy of a block that issues this instruction
   pub record Accesses_by (r : Region) (op : Op) (p : Placed) : Type 0 where
@@ -377,7 +378,7 @@ module _ (e : Ext) (o : Options) (x : List ℕ) (given : Given e o x)
               reg = reg_of e o x solved s;
               is = subst (λ (t : TempId). register_of ranges t ≡ Some (reg_of e o x solved s)) itself
                   (register_is s (spot_member e o x solved c k));
-              slot = true_le 36 (reg_of e o x solved s) both.1;
+              slot = true_le FIRST_SLOT (reg_of e o x solved s) both.1;
             }
 
     pub crowded_slot : is_crowded (length (callee_saved e.table)) r.owner ≡ true → InSlot r
@@ -395,7 +396,7 @@ module _ (e : Ext) (o : Options) (x : List ℕ) (given : Given e o x)
 
     -- ---- what is handed over in a slot
 
-    module _ (i reg : ℕ) (is : register_read ranges (slice_get (handed_by k) i) ≡ Some reg) (slot : 36 ≤ reg) where
+    module _ (i reg : ℕ) (is : register_read ranges (slice_get (handed_by k) i) ≡ Some reg) (slot : FIRST_SLOT ≤ reg) where
       end_operand : (y : Operand) × (let q = last in slice_get q.op.operands i ≡ Some y)
       end_operand = by (let q = last in slice_get q.op.operands i) refl
         where
@@ -425,7 +426,7 @@ module _ (e : Ext) (o : Options) (x : List ℕ) (given : Given e o x)
           sym (register_is s d.member) ∙ ap (register_of ranges) d.is
           ∙ sym (ap (register_read ranges) (end_read e o x given k r at i y.0 y.1)) ∙ is in
           let same : reg_of e o x solved s ≡ reg = cc both in
-          let high : 36 ≤ reg_of e o x solved s = omega (arith, same, slot) in
+          let high : FIRST_SLOT ≤ reg_of e o x solved s = omega (arith, same, slot) in
           let spilled = slot_spilled e o x solved s d.member there high (not_start s d.member (block ∙ entry) high
           (is_in s.definer.op.kind) refl) in (
             s.definer,
@@ -437,7 +438,7 @@ module _ (e : Ext) (o : Options) (x : List ℕ) (given : Given e o x)
             },
           )
         where
-          not_start : (s : Spot) → Member s (spots e o x) → s.definer.block ≡ 0 → 36 ≤ reg_of e o x solved s → (b : Bool)
+          not_start : (s : Spot) → Member s (spots e o x) → s.definer.block ≡ 0 → FIRST_SLOT ≤ reg_of e o x solved s → (b : Bool)
               → is_in s.definer.op.kind ≡ b → is_in s.definer.op.kind ≡ false
           not_start s m block high false q = q
           not_start s m block high true q = let low = entry_starts e o x solved s m block q in absurd (omega (arith, low, high))
@@ -585,7 +586,7 @@ module _ (e : Ext) (o : Options) (x : List ℕ) (given : Given e o x)
           by Enter f = let s = held_spot e o x solved v 0 reader carrying in own (ap (λ (z : ExtKind). carried_at z s) f)
           by Leave f = let s = held_spot e o x solved v 0 reader carrying in own (ap (λ (z : ExtKind). carried_at z s) f)
 
-      high : (let s = held_spot e o x solved v 0 reader carrying in 36 ≤ reg_of e o x solved s)
+      high : (let s = held_spot e o x solved v 0 reader carrying in FIRST_SLOT ≤ reg_of e o x solved s)
       high =
           let s = held_spot e o x solved v 0 reader carrying in
           let slot = i.slot in

@@ -6,6 +6,7 @@ use Rattle.std.specs.List.{list_any, list_all}
 use Rattle.un_base.specs.declared.ids.TempId.{TempId}
 use Rattle.un_base.specs.declared.ids.VarId.{VarId}
 use Rattle.un_isa.specs.declared.op.Op.{Op}
+use Rattle.un_isa.specs.declared.reg.TheConstants.{FIRST_SLOT}
 use Rattle.un_ir.specs.Linear.{is_in}
 use Rattle.un_ir.specs.declared.extended.ExtKind.{ExtKind}
 use Rattle.un_ir.specs.declared.extended.ExtKind.TheVariants.{In, Out, Body, End, Copy, Enter, Leave}
@@ -218,11 +219,11 @@ module _ (e : Ext) (o : Options) (x : List ℕ) (given : Given e o x) where
           any_true starts_in_slot (the_ranges e o x) (spot_range e o x s)
           (subst (Member (spot_range e o x s)) (sym (ranges_are e o x given))
           (member_map (spot_range e o x) (spots e o x) s (spot_in e o x given q k y m at)))
-          (ap (λ (b : Bool). b && is_none (issue_at x q).instr && nat_le 36 (spot_range e o x s).reg) on
-          ∙ ap (λ (b : Bool). b && nat_le 36 (spot_range e o x s).reg) none ∙ t)
+          (ap (λ (b : Bool). b && is_none (issue_at x q).instr && nat_le FIRST_SLOT (spot_range e o x s).reg) on
+          ∙ ap (λ (b : Bool). b && nat_le FIRST_SLOT (spot_range e o x s).reg) none ∙ t)
 
       back : (s : Spot) → Member s (spots e o x) → ((spot_range e o x s).active ≡ true) × (is_none (spot_range e o x s).instr ≡ true)
-          × (nat_le 36 (spot_range e o x s).reg ≡ true)
+          × (nat_le FIRST_SLOT (spot_range e o x s).reg ≡ true)
           → list_any (is_slot x) starts ≡ true
       back s m h =
           let q = s.definer in

@@ -15,6 +15,7 @@ use Rattle.un_isa.specs.Fit.{IsFit}
 use Rattle.un_isa.specs.Registers.{saved_registers}
 use Rattle.un_isa.specs.declared.op.Op.{Op}
 use Rattle.un_isa.specs.declared.op.Op.TheVariants.{Call}
+use Rattle.un_isa.specs.declared.reg.TheConstants.{FIRST_SLOT, REGISTERS}
 use Rattle.un_ir.specs.declared.extended.Ext.{Ext}
 use Rattle.un_ir.specs.declared.extended.ExtBlock.{ExtBlock}
 use Rattle.un_ir.specs.declared.extended.ExtKind.{ExtKind}
@@ -165,7 +166,7 @@ module _ (e : Ext) (o : Options) (ie : Bool) (block : ExtBlock) where
   truths_from true = (omega arith, (omega arith, (omega arith, (omega arith, tt))))
   truths_from false = tt
 
-  truths_below : (b : Bool) → Each (λ r. r < 36) (truths b)
+  truths_below : (b : Bool) → Each (λ r. r < REGISTERS) (truths b)
   truths_below true = predicates_below
   truths_below false = tt
 
@@ -173,12 +174,12 @@ module _ (e : Ext) (o : Options) (ie : Bool) (block : ExtBlock) where
   values_rise x =
       let generals = general_registers e o.regs ie block x in
       let b = is_truth e.names block x in
-      join_rises 36 (generals ++ truths b) (slots_of o.slots)
+      join_rises FIRST_SLOT (generals ++ truths b) (slots_of o.slots)
       (join_rises 32 generals (truths b) (generals_rise x) (truths_rise b) (general_below e o ie block x) (truths_from b))
-      (run_rises 36 o.slots)
-      (each_join (λ r. r < 36) generals (truths b)
-      (below_more 32 36 generals (omega arith) (general_below e o ie block x)) (truths_below b))
-      (each_of (λ r. 36 ≤ r) (slots_of o.slots) (λ r m. run_from 36 o.slots r m))
+      (run_rises FIRST_SLOT o.slots)
+      (each_join (λ r. r < REGISTERS) generals (truths b)
+      (below_more 32 REGISTERS generals (omega arith) (general_below e o ie block x)) (truths_below b))
+      (each_of (λ r. FIRST_SLOT ≤ r) (slots_of o.slots) (λ r m. run_from FIRST_SLOT o.slots r m))
 
   values_some : (x : TempId) → AreOptions o → 0 < length (value_registers e o.regs o.slots ie block x)
   values_some x options =
@@ -233,7 +234,7 @@ module _ (e : Ext) (o : Options) (fit : IsFit e.table) (options : AreOptions o) 
   sources_are ie block op x = go (gives_truth op)
     where
       go : (b : Bool) → IsWordDomain (Set (if b then predicate_registers else general_registers e o.regs ie block x))
-      go true = set_is 36 predicate_registers (omega arith) (run_rises 32 4) predicates_below (omega arith)
+      go true = set_is FIRST_SLOT predicate_registers (omega arith) (run_rises 32 4) predicates_below (omega arith)
       go false = set_is 32 (general_registers e o.regs ie block x) (omega arith) (generals_rise e o ie block x)
           (general_below e o ie block x)
           (generals_some e o ie block x options)
@@ -243,14 +244,14 @@ module _ (e : Ext) (o : Options) (fit : IsFit e.table) (options : AreOptions o) 
   registers_are true block In j x y below = starts_are block j below
   registers_are false block In j x y below =
       let few = options.slots in
-      set_is (36 + o.slots) (value_registers e o.regs o.slots false block x) (omega arith) (values_rise e o false block x)
+      set_is (FIRST_SLOT + o.slots) (value_registers e o.regs o.slots false block x) (omega arith) (values_rise e o false block x)
       (values_below e o false block x) (values_some e o false block x options)
   registers_are ie block (Body so) j x y below = sources_are ie block so.op x
   registers_are ie block (Copy node) j x y below =
       let few = options.slots in
       let rs = value_registers e o.regs o.slots ie block y in
-      set_is (36 + o.slots) (with_zero rs) (omega arith) (zero_rises rs (values_rise e o ie block y))
-      (zero_below (36 + o.slots) rs (omega arith) (values_below e o ie block y)) (zero_some rs)
+      set_is (FIRST_SLOT + o.slots) (with_zero rs) (omega arith) (zero_rises rs (values_rise e o ie block y))
+      (zero_below (FIRST_SLOT + o.slots) rs (omega arith) (values_below e o ie block y)) (zero_some rs)
   registers_are ie block Out j x y below = absurd (omega arith)
   registers_are ie block (End term) j x y below = absurd (omega arith)
   registers_are ie block Enter j x y below = absurd (omega arith)

@@ -15,6 +15,7 @@ use Rattle.un_isa.specs.declared.op.Op.TheVariants.{Imm, Call, Spill}
 use Rattle.un_isa.specs.declared.reg.Reg.{Reg}
 use Rattle.un_isa.specs.declared.reg.Space.{Space}
 use Rattle.un_isa.specs.declared.reg.Space.TheVariants.{R, P, M}
+use Rattle.un_isa.specs.declared.reg.TheConstants.{FIRST_SLOT, REGISTERS}
 use Rattle.un_isa.specs.declared.table.Table.{Table}
 use Rattle.un_ir.specs.declared.extended.ExtKind.{ExtKind}
 use Rattle.un_ir.specs.declared.extended.ExtKind.TheVariants.{In, Out, Body, End, Copy, Enter, Leave}
@@ -99,22 +100,22 @@ general_below e o ie block x = each_of (λ r. r < 32) (general_registers e o.reg
     let s = member_of_filter (λ (r : ℕ). is_assignable o.regs r || is_home e.table ie block x r) (range_with_len 0 32) r m in
     let k = run_below 0 32 r s.0 in omega arith)
 
-pub predicates_below : Below 36 predicate_registers
+pub predicates_below : Below REGISTERS predicate_registers
 predicates_below = (omega arith, (omega arith, (omega arith, (omega arith, tt))))
 
 pub values_below : (e : Ext) (o : Options) (ie : Bool) (block : ExtBlock) (x : TempId)
-    → Below (36 + o.slots) (value_registers e o.regs o.slots ie block x)
+    → Below (FIRST_SLOT + o.slots) (value_registers e o.regs o.slots ie block x)
 values_below e o ie block x =
-    let most = 36 + o.slots in
+    let most = FIRST_SLOT + o.slots in
     let generals = general_registers e o.regs ie block x in
     let truths = if is_truth e.names block x then predicate_registers else [] in
     each_join (λ r. r < most) (generals ++ truths) (slots_of o.slots)
     (each_join (λ r. r < most) generals truths (below_more 32 most generals (omega arith) (general_below e o ie block x))
     (go most (omega arith) (is_truth e.names block x)))
-    (each_of (λ r. r < most) (slots_of o.slots) (λ r m. run_below 36 o.slots r m))
+    (each_of (λ r. r < most) (slots_of o.slots) (λ r m. run_below FIRST_SLOT o.slots r m))
   where
-    go : (most : ℕ) → 36 ≤ most → (b : Bool) → Below most (if b then predicate_registers else [])
-    go most le true = below_more 36 most predicate_registers le predicates_below
+    go : (most : ℕ) → FIRST_SLOT ≤ most → (b : Bool) → Below most (if b then predicate_registers else [])
+    go most le true = below_more FIRST_SLOT most predicate_registers le predicates_below
     go most le false = tt
 
 pub zero_below : (n : ℕ) (rs : List ℕ) → 0 < n → Below n rs → Below n (with_zero rs)
@@ -129,29 +130,30 @@ in_set : (Q : ℕ → Type 0) (vs : List ℕ) (v : ℕ) → Each Q vs → InDoma
 in_set Q vs v h d = each_member Q vs v h (contains_member vs v d)
 
 sources_below : (e : Ext) (o : Options) (ie : Bool) (block : ExtBlock) (op : Op) (x : TempId) (v : ℕ) → IsFit e.table
-    → InDomain v (source_domain e o ie block op x) → v < 36
+    → InDomain v (source_domain e o ie block op x) → v < REGISTERS
 sources_below e o ie block Call x v fit d = let k = in_set (λ r. r < 32) ((e.table).result ∷ []) v (result_below e.table fit, tt) d in
     omega arith
-sources_below e o ie block op x v fit d = in_set (λ r. r < 36) (if gives_truth op then predicate_registers else general_registers e o.regs
+sources_below e o ie block op x v fit d = in_set (λ r. r < REGISTERS)
+    (if gives_truth op then predicate_registers else general_registers e o.regs
     ie block x) v (go (gives_truth op)) d
   where
-    go : (b : Bool) → Below 36 (if b then predicate_registers else general_registers e o.regs ie block x)
+    go : (b : Bool) → Below REGISTERS (if b then predicate_registers else general_registers e o.regs ie block x)
     go true = predicates_below
-    go false = below_more 32 36 (general_registers e o.regs ie block x) (omega arith) (general_below e o ie block x)
+    go false = below_more 32 REGISTERS (general_registers e o.regs ie block x) (omega arith) (general_below e o ie block x)
 
 -- a register of a result is at most the last slot
 pub register_below : (e : Ext) (o : Options) (ie : Bool) (block : ExtBlock) (kind : ExtKind) (j : ℕ) (x y : TempId) (v : ℕ) → IsFit e.table
-    → InDomain v (register_domain e o ie block kind j x y) → v < 36 + o.slots
+    → InDomain v (register_domain e o ie block kind j x y) → v < FIRST_SLOT + o.slots
 register_below e o true block In j x y v fit d =
     let home = start_home e.table true block.live_in j (slice_get block.live_in j) in
     let k = in_set (λ r. r < 32) (map (λ (r : Reg). r.0) (option_to_list home)) v
     (homes_below home (start_below e.table true block.live_in j (slice_get block.live_in j) fit)) d in omega arith
-register_below e o false block In j x y v fit d = in_set (λ r. r < 36 + o.slots) (value_registers e o.regs o.slots false block x) v
+register_below e o false block In j x y v fit d = in_set (λ r. r < FIRST_SLOT + o.slots) (value_registers e o.regs o.slots false block x) v
     (values_below e o false block x) d
 register_below e o ie block (Body so) j x y v fit d = let k = sources_below e o ie block so.op x v fit d in omega arith
 register_below e o ie block (Copy node) j x y v fit d =
-    in_set (λ r. r < 36 + o.slots) (with_zero (value_registers e o.regs o.slots ie block y)) v
-    (zero_below (36 + o.slots) (value_registers e o.regs o.slots ie block y) (omega arith) (values_below e o ie block y)) d
+    in_set (λ r. r < FIRST_SLOT + o.slots) (with_zero (value_registers e o.regs o.slots ie block y)) v
+    (zero_below (FIRST_SLOT + o.slots) (value_registers e o.regs o.slots ie block y) (omega arith) (values_below e o ie block y)) d
 register_below e o ie block Out j x y v fit d = let n = contains_member [] v d in elim n [ ]
 register_below e o ie block (End term) j x y v fit d = let n = contains_member [] v d in elim n [ ]
 register_below e o ie block Enter j x y v fit d = let n = contains_member [] v d in elim n [ ]
@@ -171,7 +173,7 @@ fits e o ie block x v None n d = tt
 fits e o ie block x v (Some R) n d = let lt = in_set (λ r. r < 32) (general_registers e o.regs ie block x) v (general_below e o ie block x)
     d in (general v).1 (omega arith, omega arith)
 fits e o ie block x v (Some P) n d =
-    let k = in_set (λ r. (32 ≤ r) × (r < 36)) predicate_registers v
+    let k = in_set (λ r. (32 ≤ r) × (r < REGISTERS)) predicate_registers v
     ((omega arith, omega arith), ((omega arith, omega arith), ((omega arith, omega arith), ((omega arith, omega arith), tt)))) d in
     let lo = k.0 in let hi = k.1 in (predicate v).1 (omega arith, omega arith)
 fits e o ie block x v (Some M) n d = absurd (n refl)

@@ -6,6 +6,7 @@ use Rattle.std.proofs.lemmas.Bool.Decides.{nat_tests}
 use Rattle.un_isa.specs.Registers.{space_of}
 use Rattle.un_isa.specs.declared.reg.Space.{Space}
 use Rattle.un_isa.specs.declared.reg.Space.TheVariants.{R, P, M}
+use Rattle.un_isa.specs.declared.reg.TheConstants.{FIRST_SLOT, REGISTERS}
 use Rattle.un_domains.specs.Sets.{has}
 use Rattle.un_model.specs.Solutions.{InSpace}
 use Rattle.un_sites.specs.Postings.{registers_in}
@@ -31,8 +32,8 @@ module _ (r : ℕ) where
 
   pub general : (space_of r ≡ R) ↔ ((0 ≤ r) × (r < 0 + 32))
   general = (
-    λ h. by (nat_lt r 32) (nat_lt r 36) refl h,
-    λ h. let hi = h.1 in let t : nat_lt r 32 ≡ true = grind (arith, nat_tests) in ap (λ b. space_by b (nat_lt r 36)) t,
+    λ h. by (nat_lt r 32) (nat_lt r FIRST_SLOT) refl h,
+    λ h. let hi = h.1 in let t : nat_lt r 32 ≡ true = grind (arith, nat_tests) in ap (λ b. space_by b (nat_lt r FIRST_SLOT)) t,
   )
     where
       by : (b c : Bool) → nat_lt r 32 ≡ b → space_by b c ≡ R → (0 ≤ r) × (r < 0 + 32)
@@ -42,33 +43,34 @@ module _ (r : ℕ) where
 
   pub predicate : (space_of r ≡ P) ↔ ((32 ≤ r) × (r < 32 + 4))
   predicate = (
-    λ h. by (nat_lt r 32) (nat_lt r 36) refl refl h,
-    λ h. let lo = h.0 in let hi = h.1 in let f : nat_lt r 32 ≡ false = grind (arith, nat_tests) in let t : nat_lt r 36 ≡ true =
+    λ h. by (nat_lt r 32) (nat_lt r FIRST_SLOT) refl refl h,
+    λ h. let lo = h.0 in let hi = h.1 in let f : nat_lt r 32 ≡ false = grind (arith, nat_tests) in let t : nat_lt r FIRST_SLOT ≡ true =
         grind (arith, nat_tests) in
-        ap (λ b. space_by b (nat_lt r 36)) f ∙ ap (λ c. space_by false c) t,
+        ap (λ b. space_by b (nat_lt r FIRST_SLOT)) f ∙ ap (λ c. space_by false c) t,
   )
     where
-      by : (b c : Bool) → nat_lt r 32 ≡ b → nat_lt r 36 ≡ c → space_by b c ≡ P → (32 ≤ r) × (r < 32 + 4)
+      by : (b c : Bool) → nat_lt r 32 ≡ b → nat_lt r FIRST_SLOT ≡ c → space_by b c ≡ P → (32 ≤ r) × (r < 32 + 4)
       by true c p q h = absurd (cc h)
-      by false true p q h = let lo : 32 ≤ r = grind (arith, nat_tests, p) in let hi : r < 36 = grind (arith, nat_tests, q) in
+      by false true p q h = let lo : 32 ≤ r = grind (arith, nat_tests, p) in let hi : r < REGISTERS = grind (arith, nat_tests, q) in
           (omega arith, omega arith)
       by false false p q h = absurd (cc h)
 
-  slot : (k : ℕ) → r < 36 + k → (space_of r ≡ M) ↔ ((36 ≤ r) × (r < 36 + k))
+  slot : (k : ℕ) → r < FIRST_SLOT + k → (space_of r ≡ M) ↔ ((FIRST_SLOT ≤ r) × (r < FIRST_SLOT + k))
   slot k below = (
-    λ h. by (nat_lt r 32) (nat_lt r 36) refl h,
-    λ h. let lo = h.0 in let f : nat_lt r 32 ≡ false = grind (arith, nat_tests) in let t : nat_lt r 36 ≡ false = grind (arith, nat_tests) in
-        ap (λ b. space_by b (nat_lt r 36)) f ∙ ap (λ c. space_by false c) t,
+    λ h. by (nat_lt r 32) (nat_lt r FIRST_SLOT) refl h,
+    λ h. let lo = h.0 in let f : nat_lt r 32 ≡ false = grind (arith, nat_tests) in
+        let t : nat_lt r FIRST_SLOT ≡ false = grind (arith, nat_tests) in
+        ap (λ b. space_by b (nat_lt r FIRST_SLOT)) f ∙ ap (λ c. space_by false c) t,
   )
     where
-      by : (b c : Bool) → nat_lt r 36 ≡ c → space_by b c ≡ M → (36 ≤ r) × (r < 36 + k)
+      by : (b c : Bool) → nat_lt r FIRST_SLOT ≡ c → space_by b c ≡ M → (FIRST_SLOT ≤ r) × (r < FIRST_SLOT + k)
       by true c q h = absurd (cc h)
       by false true q h = absurd (cc h)
-      by false false q h = let lo : 36 ≤ r = grind (arith, nat_tests, q) in (omega arith, below)
+      by false false q h = let lo : FIRST_SLOT ≤ r = grind (arith, nat_tests, q) in (omega arith, below)
 
   -- a register of a machine with k slots is in a space where it is one of its registers
-  pub in_space : (k : ℕ) (space : Option Space) → r < 36 + k → InSpace r space ↔ (has (registers_in k space) r ≡ true)
-  in_space k None below = (λ h. (has_run 0 (36 + k) r).0 (omega arith, omega arith), λ h. tt)
+  pub in_space : (k : ℕ) (space : Option Space) → r < FIRST_SLOT + k → InSpace r space ↔ (has (registers_in k space) r ≡ true)
+  in_space k None below = (λ h. (has_run 0 (FIRST_SLOT + k) r).0 (omega arith, omega arith), λ h. tt)
   in_space k (Some R) below = iff_then general (has_run 0 32 r)
   in_space k (Some P) below = iff_then predicate (has_run 32 4 r)
-  in_space k (Some M) below = iff_then (slot k below) (has_run 36 k r)
+  in_space k (Some M) below = iff_then (slot k below) (has_run FIRST_SLOT k r)

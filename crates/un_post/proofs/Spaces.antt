@@ -4,6 +4,7 @@ use Rattle.std.specs.Prelude.{Option, Some, None, slice_get, slice_index, not, �
 use Rattle.un_base.specs.declared.ids.TempId.{TempId}
 use Rattle.un_base.specs.declared.ids.VarId.{VarId}
 use Rattle.un_isa.specs.declared.op.Op.{Op}
+use Rattle.un_isa.specs.declared.reg.TheConstants.{FIRST_SLOT}
 use Rattle.un_ir.specs.Linear.{is_out}
 use Rattle.un_ir.specs.declared.extended.NodeCopy.{NodeCopy}
 use Rattle.un_ir.specs.declared.function.SrcOp.{SrcOp}
@@ -77,7 +78,7 @@ given_iff reg (Some op) b h = (λ s t. s, λ f. f h)
 
 module _ (e : Ext) (o : Options) (x : List ℕ) (given : Given e o x) where
   -- no register is past the last slot
-  pub bound : (s : Spot) → Member s (spots e o x) → (spot_range e o x s).reg < 36 + o.slots
+  pub bound : (s : Spot) → Member s (spots e o x) → (spot_range e o x s).reg < FIRST_SLOT + o.slots
   bound s m =
       let d = definer_is e o x given s m in
       let q = s.definer in

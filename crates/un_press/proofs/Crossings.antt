@@ -9,6 +9,7 @@ use Rattle.un_base.specs.declared.ids.TempId.{TempId}
 use Rattle.un_isa.specs.Tables.{in_mask}
 use Rattle.un_isa.specs.declared.op.Op.{Op}
 use Rattle.un_isa.specs.declared.op.Op.TheVariants.{Call}
+use Rattle.un_isa.specs.declared.reg.TheConstants.{FIRST_SLOT, REGISTERS}
 use Rattle.un_ir.specs.Kinds.{is_call_op, is_call_kind}
 use Rattle.un_ir.specs.declared.extended.ExtKind.{ExtKind}
 use Rattle.un_ir.specs.declared.extended.ExtKind.TheVariants.{In, Out, Body, End, Copy, Enter, Leave}
@@ -254,11 +255,11 @@ module _ (e : Ext) (o : Options) (values : List ℕ) (h : Solved e o values) whe
 
   -- the registers, but for slots, in which what is active in the block of call c may be, and which it does not clobber, are among these
   abbrev pub Covers : Placed → List ℕ → Type 0
-  Covers c kept = (s : Spot) → Member s (spots e o values) → s.definer.block ≡ c.block → is_active s ≡ true → reg_of s < 36
+  Covers c kept = (s : Spot) → Member s (spots e o values) → s.definer.block ≡ c.block → is_active s ≡ true → reg_of s < REGISTERS
       → in_mask (e.table).clobbered (reg_of s) ≡ false → Member (reg_of s) kept
 
   abbrev pub in_slot : (c : Placed) → Carried c → Bool
-  in_slot c k = nat_le 36 (reg_of (spot_in c k))
+  in_slot c k = nat_le FIRST_SLOT (reg_of (spot_in c k))
 
   abbrev pub Differs : (c : Placed) → Carried c → Carried c → Type 0
   Differs c k l = k.value ≡ l.value → ⊥
@@ -281,10 +282,10 @@ module _ (e : Ext) (o : Options) (values : List ℕ) (h : Solved e o values) whe
       let long = length_mapped (λ (k : Carried c). reg_of (spot_in c k)) low in
       omega (arith, parts, le, long)
     where
-      below : (reg : ℕ) → not (nat_le 36 reg) ≡ true → reg < 36
-      below reg t = by (nat_le 36 reg) refl t
+      below : (reg : ℕ) → not (nat_le FIRST_SLOT reg) ≡ true → reg < REGISTERS
+      below reg t = by (nat_le FIRST_SLOT reg) refl t
         where
-          by : (b : Bool) → nat_le 36 reg ≡ b → not b ≡ true → reg < 36
+          by : (b : Bool) → nat_le FIRST_SLOT reg ≡ b → not b ≡ true → reg < REGISTERS
           by true p n = absurd (cc n)
           by false p n = grind (arith, nat_tests, p)
 

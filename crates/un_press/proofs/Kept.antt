@@ -17,6 +17,7 @@ use Rattle.un_isa.specs.Tables.{in_mask}
 use Rattle.un_isa.specs.declared.op.Op.{Op}
 use Rattle.un_isa.specs.declared.op.Op.TheVariants.{Call}
 use Rattle.un_isa.specs.declared.reg.Reg.{Reg}
+use Rattle.un_isa.specs.declared.reg.TheConstants.{FIRST_SLOT, REGISTERS}
 use Rattle.un_isa.specs.declared.table.Table.{Table}
 use Rattle.un_ir.specs.declared.function.Kind.{Kind}
 use Rattle.un_ir.specs.declared.function.Kind.TheVariants.{General}
@@ -64,13 +65,13 @@ HasHome home = IfSome home (λ (r : Reg). Home r.0)
 
 -- a register or one of so many slots
 abbrev pub Safe : ℕ → ℕ → Type 0
-Safe slots r = (r < 29) ⊎ ((31 ≤ r) × (r < 36 + slots))
+Safe slots r = (r < 29) ⊎ ((31 ≤ r) × (r < FIRST_SLOT + slots))
 
 home_safe : (slots r : ℕ) → Home r → Safe slots r
 home_safe slots r (inl lt) = inl lt
 home_safe slots r (inr is) = inr (omega (arith, is), omega (arith, is))
 
-home_low : (r : ℕ) → Home r → r < 36
+home_low : (r : ℕ) → Home r → r < REGISTERS
 home_low r (inl lt) = omega (arith, lt)
 home_low r (inr is) = omega (arith, is)
 
@@ -256,7 +257,7 @@ module _ (t : Table) (fit : IsFit t) where
       ]
 
   -- a safe register that a call keeps is one that functions keep
-  pub kept_saved : (slots r : ℕ) → Safe slots r → r < 36 → in_mask t.clobbered r ≡ false → Member r (callee_saved t)
+  pub kept_saved : (slots r : ℕ) → Safe slots r → r < REGISTERS → in_mask t.clobbered r ≡ false → Member r (callee_saved t)
   unfolding callee_saved
   kept_saved slots r safe lt spared = by (in_mask t.saved r) refl (is_clobbered r) refl
     where
@@ -311,7 +312,7 @@ module _ (e : Ext) (o : Options) (values : List ℕ) (h : Solved e o values) whe
 
   -- the home of an operand is no slot
   pub operand_home : (p : Placed) (j : ℕ) (x : Operand) → Member p (all e o values) → slice_get p.op.operands j ≡ Some x
-      → IfSome x.home (λ (r : Reg). r.0 < 36)
+      → IfSome x.home (λ (r : Reg). r.0 < REGISTERS)
   operand_home p j x m at =
       let g = placed_good e o values h p m in
       let keeps = g.keeps in
@@ -321,7 +322,7 @@ module _ (e : Ext) (o : Options) (values : List ℕ) (h : Solved e o values) whe
       in
       low x.home (each_member (λ (y : Operand). HasHome y.home) p.op.operands x homes (member_at p.op.operands j x at))
     where
-      low : (home : Option Reg) → HasHome home → IfSome home (λ (r : Reg). r.0 < 36)
+      low : (home : Option Reg) → HasHome home → IfSome home (λ (r : Reg). r.0 < REGISTERS)
       low None a = tt
       low (Some r) a = home_low r.0 a
 
@@ -343,8 +344,8 @@ module _ (e : Ext) (o : Options) (values : List ℕ) (h : Solved e o values) whe
 
   slots_safe : Each IsSafe (slots_of o.slots)
   slots_safe = each_of IsSafe (slots_of o.slots) (λ r m.
-      let lo = from 36 36 o.slots r (omega arith) m in
-      let hi = below 36 o.slots r m in
+      let lo = from FIRST_SLOT FIRST_SLOT o.slots r (omega arith) m in
+      let hi = below FIRST_SLOT o.slots r m in
       inr (omega (arith, lo), omega (arith, hi)))
 
   preds_safe : Each IsSafe predicate_registers
@@ -433,16 +434,17 @@ module _ (e : Ext) (o : Options) (values : List ℕ) (h : Solved e o values) whe
 
   -- with the slots they are all in which what crosses a call may be
   pub saved_and_slots : (c : Placed) → CoversAll e o values h c (callee_saved e.table ++ slots_of o.slots)
-  saved_and_slots c s m block act spared = by (nat_lt (reg_of e o values h s) 36) refl
+  saved_and_slots c s m block act spared = by (nat_lt (reg_of e o values h s) FIRST_SLOT) refl
     where
-      by : (b : Bool) → nat_lt (reg_of e o values h s) 36 ≡ b → Member (reg_of e o values h s) (callee_saved e.table ++ slots_of o.slots)
+      by : (b : Bool) → nat_lt (reg_of e o values h s) FIRST_SLOT ≡ b
+          → Member (reg_of e o values h s) (callee_saved e.table ++ slots_of o.slots)
       by true f =
-          let low : reg_of e o values h s < 36 = grind (arith, nat_tests, f) in
+          let low : reg_of e o values h s < REGISTERS = grind (arith, nat_tests, f) in
           member_append_left (callee_saved e.table) (slots_of o.slots) (reg_of e o values h s) (saved_cover c s m block act low spared)
       by false f =
-          let high : 36 ≤ reg_of e o values h s = grind (arith, nat_tests, f) in
+          let high : FIRST_SLOT ≤ reg_of e o values h s = grind (arith, nat_tests, f) in
           member_append_right (callee_saved e.table) (slots_of o.slots) (reg_of e o values h s)
-          (there 36 o.slots (reg_of e o values h s) high (elim (register_safe s m) [
+          (there FIRST_SLOT o.slots (reg_of e o values h s) high (elim (register_safe s m) [
             | inl lt ↦ absurd (omega (arith, lt, high))
             | inr two ↦ two.1
           ]))
@@ -452,11 +454,11 @@ module _ (e : Ext) (o : Options) (values : List ℕ) (h : Solved e o values) whe
   -- no value at the start of the entry has a slot
   pub entry_starts : (s : Spot) → Member s (spots e o values) → (let p = s.definer in p.block ≡ 0)
       → (let p = s.definer in is_in p.op.kind ≡ true)
-      → reg_of e o values h s < 36
+      → reg_of e o values h s < REGISTERS
   entry_starts s m entry start = let p = s.definer in by p.op.kind (in_entry e o values p) refl refl start (sits s m)
     where
       by : (kind : ExtKind) (ie : Bool) → (let p = s.definer in p.op.kind ≡ kind) → (let p = s.definer in in_entry e o values p ≡ ie)
-          → is_in kind ≡ true → sits_in s → reg_of e o values h s < 36
+          → is_in kind ≡ true → sits_in s → reg_of e o values h s < REGISTERS
       by In true k f t d =
           let p = s.definer in
           let homes = map (λ (r : Reg). r.0) (option_to_list (entry_home p s.place)) in

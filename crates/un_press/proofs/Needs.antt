@@ -11,6 +11,7 @@ use Rattle.un_isa.specs.declared.op.Op.TheVariants.{Mov, Store, Call, Jump as Ju
 use Rattle.un_isa.specs.declared.op.Op.TheVariants.{Enter as EnterOp, Leave as LeaveOp, Nop}
 use Rattle.un_isa.specs.declared.reg.Space.{Space}
 use Rattle.un_isa.specs.declared.reg.Space.TheVariants.{R, P, M}
+use Rattle.un_isa.specs.declared.reg.TheConstants.{FIRST_SLOT, REGISTERS}
 use Rattle.un_isa.specs.declared.table.Table.{Table}
 use Rattle.un_ir.specs.declared.function.SrcOp.{SrcOp}
 use Rattle.un_ir.specs.declared.function.Term.{Term}
@@ -30,18 +31,18 @@ space_by : Bool → Bool → Space
 space_by b c = if b then R else if c then P else M
 
 -- a register in such a space is no slot
-pub no_slot : (reg : ℕ) (s : Option Space) → InSpace reg s → in_registers s ≡ true → reg < 36
+pub no_slot : (reg : ℕ) (s : Option Space) → InSpace reg s → in_registers s ≡ true → reg < REGISTERS
 no_slot reg None h t = absurd (cc t)
 no_slot reg (Some M) h t = absurd (cc t)
-no_slot reg (Some R) h t = by (nat_lt reg 32) (nat_lt reg 36) refl h
+no_slot reg (Some R) h t = by (nat_lt reg 32) (nat_lt reg FIRST_SLOT) refl h
   where
-    by : (b c : Bool) → nat_lt reg 32 ≡ b → (if b then R else if c then P else M) ≡ R → reg < 36
+    by : (b c : Bool) → nat_lt reg 32 ≡ b → (if b then R else if c then P else M) ≡ R → reg < REGISTERS
     by true c p e = grind (arith, nat_tests, p)
     by false true p e = absurd (cc e)
     by false false p e = absurd (cc e)
-no_slot reg (Some P) h t = by (nat_lt reg 32) (nat_lt reg 36) refl refl h
+no_slot reg (Some P) h t = by (nat_lt reg 32) (nat_lt reg FIRST_SLOT) refl refl h
   where
-    by : (b c : Bool) → nat_lt reg 32 ≡ b → nat_lt reg 36 ≡ c → (if b then R else if c then P else M) ≡ P → reg < 36
+    by : (b c : Bool) → nat_lt reg 32 ≡ b → nat_lt reg FIRST_SLOT ≡ c → (if b then R else if c then P else M) ≡ P → reg < REGISTERS
     by b true p q e = grind (arith, nat_tests, q)
     by true false p q e = absurd (cc e)
     by false false p q e = absurd (cc e)
@@ -106,7 +107,8 @@ abbrev copy_by : Bool → Bool → Bool → Bool → Bool → Option Op
 copy_by a b c d f = if a then Some Mov else (if b then Some Spill else (if c then Some Reload else (if d then Some P2R else
     (if f then Some R2P else None))))
 
-copy_gives : (a b c d f : Bool) (reg : ℕ) → is_some (copy_by a b c d f) ≡ true → InSpace reg (space_given (copy_by a b c d f)) → 36 ≤ reg
+copy_gives : (a b c d f : Bool) (reg : ℕ) → is_some (copy_by a b c d f) ≡ true → InSpace reg (space_given (copy_by a b c d f))
+    → FIRST_SLOT ≤ reg
     → copy_by a b c d f ≡ Some Spill
 copy_gives true b c d f reg s space le = let lt = no_slot reg (Some R) space refl in absurd (omega (arith, lt, le))
 copy_gives false true c d f reg s space le = refl
@@ -115,7 +117,8 @@ copy_gives false false false true f reg s space le = let lt = no_slot reg (Some 
 copy_gives false false false false true reg s space le = let lt = no_slot reg (Some P) space refl in absurd (omega (arith, lt, le))
 copy_gives false false false false false reg s space le = absurd (cc s)
 
-copy_reads : (a b c d f : Bool) (reg : ℕ) → is_some (copy_by a b c d f) ≡ true → InSpace reg (space_read (copy_by a b c d f) 0) → 36 ≤ reg
+copy_reads : (a b c d f : Bool) (reg : ℕ) → is_some (copy_by a b c d f) ≡ true → InSpace reg (space_read (copy_by a b c d f) 0)
+    → FIRST_SLOT ≤ reg
     → copy_by a b c d f ≡ Some Reload
 copy_reads true b c d f reg s space le = let lt = no_slot reg (Some R) space refl in absurd (omega (arith, lt, le))
 copy_reads false true c d f reg s space le = let lt = no_slot reg (Some R) space refl in absurd (omega (arith, lt, le))
@@ -125,9 +128,11 @@ copy_reads false false false false true reg s space le = let lt = no_slot reg (S
 copy_reads false false false false false reg s space le = absurd (cc s)
 
 -- an active copy that gives a slot is a Spill
-pub gives_slot : (n reg : ℕ) → is_some (copy_of n) ≡ true → InSpace reg (space_given (copy_of n)) → 36 ≤ reg → copy_of n ≡ Some Spill
+pub gives_slot : (n reg : ℕ) → is_some (copy_of n) ≡ true → InSpace reg (space_given (copy_of n)) → FIRST_SLOT ≤ reg
+    → copy_of n ≡ Some Spill
 gives_slot n reg = copy_gives (n == 1) (n == 2) (n == 3) (n == 4) (n == 5) reg
 
 -- and one that reads a slot is a Reload
-pub reads_slot : (n reg : ℕ) → is_some (copy_of n) ≡ true → InSpace reg (space_read (copy_of n) 0) → 36 ≤ reg → copy_of n ≡ Some Reload
+pub reads_slot : (n reg : ℕ) → is_some (copy_of n) ≡ true → InSpace reg (space_read (copy_of n) 0) → FIRST_SLOT ≤ reg
+    → copy_of n ≡ Some Reload
 reads_slot n reg = copy_reads (n == 1) (n == 2) (n == 3) (n == 4) (n == 5) reg

@@ -4,6 +4,7 @@ use Rattle.std.proofs.Common.{ℕ, ◌≡◌, ◌<◌, ◌≤◌, ◌+◌, ◌�
 use Rattle.std.specs.Prelude.{Option, Some, None, slice_get, is_some, IfSome}
 use Rattle.un_base.specs.declared.ids.TempId.{TempId}
 use Rattle.un_isa.specs.declared.reg.Reg.{Reg}
+use Rattle.un_isa.specs.declared.reg.TheConstants.{REGISTERS}
 use Rattle.un_ir.specs.declared.function.SrcOp.{SrcOp}
 use Rattle.un_ir.specs.declared.function.Term.{Term}
 use Rattle.un_ir.specs.declared.function.Term.TheVariants.{Fall, Jump, Branch, Ret}
@@ -124,8 +125,9 @@ module _ (e : Ext) (o : Options) (values : List ℕ) (h : Solved e o values) whe
         let y = r.operand in
         low y.home some (operand_home e o values h q r.place r.operand r.member r.at) home
       where
-        low : (place : Option Reg) → is_some place ≡ true → IfSome place (λ (x : Reg). x.0 < 36) → IfSome place (λ (x : Reg). reg ≡ x.0)
-            → reg < 36
+        low : (place : Option Reg) → is_some place ≡ true → IfSome place (λ (x : Reg). x.0 < REGISTERS)
+            → IfSome place (λ (x : Reg). reg ≡ x.0)
+            → reg < REGISTERS
         low None s a b = absurd (cc s)
         low (Some x) s a b = omega (arith, a, b)
 

@@ -6,6 +6,7 @@ use Rattle.un_base.specs.declared.ids.TempId.{TempId}
 use Rattle.un_isa.specs.Tables.{latency_of}
 use Rattle.un_isa.specs.declared.op.Op.TheVariants.{Reload}
 use Rattle.un_isa.specs.declared.reg.Reg.{Reg}
+use Rattle.un_isa.specs.declared.reg.TheConstants.{FIRST_SLOT, REGISTERS}
 use Rattle.un_ir.specs.Extended.{IsGoodOperand, Want, wants_of, is_copy}
 use Rattle.un_ir.specs.Kinds.{is_call_kind, is_delimiter}
 use Rattle.un_ir.specs.declared.extended.ExtKind.{ExtKind}
@@ -39,7 +40,7 @@ module _ (e : Ext) (o : Options) (values : List ℕ) (h : Solved e o values) whe
   -- a reader takes no slot: by the space that its instruction asks for, or by the home of its operand
   abbrev pub NeedsRegister : (v : TempId) (t : ℕ) → Reader e o values h v t → Type 0
   NeedsRegister v t r = (reg : ℕ) → InSpace reg (space_read (issue_at values r.user).instr r.place)
-      → IfSome r.operand.home (λ (x : Reg). reg ≡ x.0) → reg < 36
+      → IfSome r.operand.home (λ (x : Reg). reg ≡ x.0) → reg < REGISTERS
 
   -- value v crosses call c to a reader that needs a register
   pub record Wanted (c : Placed) (v : TempId) : Type 0 where
@@ -84,7 +85,7 @@ module _ (e : Ext) (o : Options) (values : List ℕ) (h : Solved e o values) whe
         (subst (λ (w : LiveRange). HasHome want.home w) range d.home)
 
     -- not what needs a register
-    pub no_reader : NeedsRegister v t r → 36 ≤ reg_of e o values h d.spot → ⊥
+    pub no_reader : NeedsRegister v t r → FIRST_SLOT ≤ reg_of e o values h d.spot → ⊥
     no_reader needs slot =
         let lt = needs (reg_of e o values h d.spot) read_space read_home in
         omega (arith, lt, slot)
@@ -106,7 +107,7 @@ module _ (e : Ext) (o : Options) (values : List ℕ) (h : Solved e o values) whe
     first_place Leave k c = absurd (cc c)
 
     -- a copy that reads a slot reloads
-    pub reloads : (let p = r.user in is_copy p.op.kind ≡ true) → 36 ≤ reg_of e o values h d.spot
+    pub reloads : (let p = r.user in is_copy p.op.kind ≡ true) → FIRST_SLOT ≤ reg_of e o values h d.spot
         → (issue_at values r.user).instr ≡ Some Reload
     reloads copy slot = let p = r.user in by p.op.kind refl copy
       where
@@ -144,8 +145,8 @@ module _ (e : Ext) (o : Options) (values : List ℕ) (h : Solved e o values) whe
     pub last : cycle p + latency_of e.table Reload ≤ end_of values p
 
   module _ (c : Placed) (k : Carried e o values h c) (needs : IsWanted c k) (t : in_slot e o values h c k ≡ true) where
-    slot : 36 ≤ reg_of e o values h (spot_in e o values h c k)
-    slot = true_le 36 (reg_of e o values h (spot_in e o values h c k)) t
+    slot : FIRST_SLOT ≤ reg_of e o values h (spot_in e o values h c k)
+    slot = true_le FIRST_SLOT (reg_of e o values h (spot_in e o values h c k)) t
 
     -- what reads the slot is a copy on the way to the reader
     way : (let x = k.crossing in let r = x.reader in IsOnTheWay e o values h (reader_of c k) r.user)

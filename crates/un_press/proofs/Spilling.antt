@@ -8,6 +8,7 @@ use Rattle.un_base.specs.declared.ids.TempId.{TempId}
 use Rattle.un_base.specs.declared.ids.VarId.{VarId}
 use Rattle.un_isa.specs.declared.op.Op.{Op}
 use Rattle.un_isa.specs.declared.op.Op.TheVariants.{Spill}
+use Rattle.un_isa.specs.declared.reg.TheConstants.{FIRST_SLOT, REGISTERS}
 use Rattle.un_ir.specs.Extended.{IsGoodKind, IsSourceOp, result_count, is_copy}
 use Rattle.un_ir.specs.Kinds.{is_call_kind, is_delimiter}
 use Rattle.un_ir.specs.Linear.{is_in}
@@ -196,7 +197,7 @@ module _ (e : Ext) (o : Options) (values : List ℕ) (h : Solved e o values) whe
       let lt = length_get s.definer.op.results s.place s.temp (result_at s m) in
       omega (arith, count, lt)
 
-  module _ (s : Spot) (m : Member s (spots e o values)) (act : is_active e o values h s ≡ true) (slot : 36 ≤ reg_of e o values h s)
+  module _ (s : Spot) (m : Member s (spots e o values)) (act : is_active e o values h s ≡ true) (slot : FIRST_SLOT ≤ reg_of e o values h s)
       (other : is_in s.definer.op.kind ≡ false) where
     abbrev p : Placed
     p = s.definer
@@ -207,7 +208,7 @@ module _ (e : Ext) (o : Options) (values : List ℕ) (h : Solved e o values) whe
     space : InSpace (reg_of e o values h s) (space_given (instruction_of p.op.kind n))
     space = let schedule = h.schedule in given_space e o values (numbered e o values h) s m schedule
 
-    low : reg_of e o values h s < 36 → ((issue_at values p).instr ≡ Some Spill) × (is_copy p.op.kind ≡ true)
+    low : reg_of e o values h s < REGISTERS → ((issue_at values p).instr ≡ Some Spill) × (is_copy p.op.kind ≡ true)
     low lt = absurd (omega (arith, lt, slot))
 
     none : (kind : ExtKind) → p.op.kind ≡ kind → result_count e.table p.owner kind ≡ 0
@@ -272,14 +273,14 @@ module _ (e : Ext) (o : Options) (values : List ℕ) (h : Solved e o values) whe
   -- value v crosses call c, and has no slot at the start of the block
   pub record Saved (c : Placed) (v : TempId) : Type 0 where
     pub crossing : Crossing e o values h c v
-    pub starts : let u = crossing.own in is_in u.definer.op.kind ≡ true → reg_of e o values h u < 36
+    pub starts : let u = crossing.own in is_in u.definer.op.kind ≡ true → reg_of e o values h u < REGISTERS
 
   abbrev pub crossings : (c : Placed) (vs : List TempId) → Each (Saved c) vs → Each (Crossing e o values h c) vs
   crossings c [] each = tt
   crossings c (v ∷ vs) each = (each.0.crossing, crossings c vs each.1)
 
   abbrev IsSaved : (c : Placed) → Carried e o values h c → Type 0
-  IsSaved c k = let x = k.crossing in let u = x.own in is_in u.definer.op.kind ≡ true → reg_of e o values h u < 36
+  IsSaved c k = let x = k.crossing in let u = x.own in is_in u.definer.op.kind ≡ true → reg_of e o values h u < REGISTERS
 
   all_saved : (c : Placed) (vs : List TempId) (each : Each (Saved c) vs) → Each (IsSaved c) (carried_all e o values h c vs
       (crossings c vs each))
@@ -308,8 +309,8 @@ module _ (e : Ext) (o : Options) (values : List ℕ) (h : Solved e o values) whe
   start_carries Leave s t = absurd (cc t)
 
   module _ (c : Placed) (k : Carried e o values h c) (saved : IsSaved c k) (t : in_slot e o values h c k ≡ true) where
-    slot : 36 ≤ reg_of e o values h (spot_in e o values h c k)
-    slot = true_le 36 (reg_of e o values h (spot_in e o values h c k)) t
+    slot : FIRST_SLOT ≤ reg_of e o values h (spot_in e o values h c k)
+    slot = true_le FIRST_SLOT (reg_of e o values h (spot_in e o values h c k)) t
 
     not_start : (b : Bool) → (let s = spot_in e o values h c k in is_in s.definer.op.kind ≡ b)
         → (let s = spot_in e o values h c k in is_in s.definer.op.kind ≡ false)
@@ -320,8 +321,8 @@ module _ (e : Ext) (o : Options) (values : List ℕ) (h : Solved e o values) whe
         let value : s.temp ≡ k.value = sym (start_carries s.definer.op.kind s q) ∙ spot_value e o values h c k in
         let one = one_spot e o values (numbered e o values h) s x.own (spot_member e o values h c k) x.member
         (ap (λ (z : TempId). z.0) (value ∙ sym x.is)) in
-        let low : reg_of e o values h x.own < 36 = saved (ap (λ (u : Spot). is_in u.definer.op.kind) (sym one) ∙ q) in
-        let high : 36 ≤ reg_of e o values h x.own = subst (λ (u : Spot). 36 ≤ reg_of e o values h u) one slot in
+        let low : reg_of e o values h x.own < REGISTERS = saved (ap (λ (u : Spot). is_in u.definer.op.kind) (sym one) ∙ q) in
+        let high : FIRST_SLOT ≤ reg_of e o values h x.own = subst (λ (u : Spot). FIRST_SLOT ≤ reg_of e o values h u) one slot in
         absurd (omega (arith, low, high))
 
     pub spilled : (let s = spot_in e o values h c k in ((issue_at values s.definer).instr ≡ Some Spill) ×

@@ -1,6 +1,7 @@
 -- How a value stands in a place, worked out by hand: a predicate is 255 in a general register and in a slot of the frame.
 use Rattle.std.specs.Prelude.{ℕ, ◌≡◌}
 use Rattle.std.proofs.Common.{refl}
+use Rattle.un_isa.specs.declared.reg.TheConstants.{FIRST_SLOT}
 use Rattle.un_ir.specs.declared.function.Kind.TheVariants.{General, Pred}
 use Rattle.un_simulation.specs.Simulation.{as_held}
 
@@ -19,8 +20,8 @@ truth_in_first_predicate = refl
 truth_in_last_predicate : as_held Pred 35 1 ≡ 1
 truth_in_last_predicate = refl
 
-truth_in_slot : as_held Pred 36 1 ≡ 255
+truth_in_slot : as_held Pred FIRST_SLOT 1 ≡ 255
 truth_in_slot = refl
 
-falsehood_in_slot : as_held Pred 36 0 ≡ 0
+falsehood_in_slot : as_held Pred FIRST_SLOT 0 ≡ 0
 falsehood_in_slot = refl
