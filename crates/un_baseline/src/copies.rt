@@ -3,8 +3,6 @@
 ghost use Rattle.std.specs.Prelude.{◌≡◌, ◌+◌, IfOk, length, slice_get, slice_index};
 ghost use Rattle.un_isa.specs.Tables.{latency_of};
 ghost use Rattle.un_isa.specs.declared.op.Op.TheVariants.{Reload};
-ghost use Rattle.un_ir.specs.Extended.{name_kind};
-ghost use Rattle.un_ir.specs.Linear.{first_of};
 ghost use Rattle.un_baseline.specs.SpillEverywhere.{slot_of, last_place, is_placed, kept_place, slot_at_start, move, no_move, spilled_to};
 ghost use Rattle.un_baseline.specs.SpillEverywhere.{kept_by_kind, first_copy, second_copy, result_wait, operand_copy, truth_copy};
 ghost use Rattle.un_baseline.specs.SpillEverywhere.{first_alts, copy_move, after_move, next_cycle, next_value, next_operand};
@@ -13,24 +11,15 @@ use crate::plan::{Definer, Move, PREDICATE, Progress, Purpose, Setting};
 use un_base::ids::{NameId, TempId};
 use un_base::memory_error::NoMemory;
 use un_base::numbers::{later, number};
-use un_ir::extended::{Ext, ExtOp, FROM_PREDICATE, NodeCopy, RELOAD, SPILL, TO_PREDICATE};
+use un_ir::extended::{
+    Ext, ExtOp, FROM_PREDICATE, NodeCopy, RELOAD, SPILL, TO_PREDICATE, first_of, name_kind,
+};
 use un_ir::function::{Kind, Term};
 use un_isa::op::Op;
 use un_isa::reg::{FIRST_SLOT, LINK};
 use un_isa::table::{Table, latency};
 use un_lists::items::Items;
 use un_model::instructions;
-
-/// The kind of a name.
-pub(crate) fn name_kind(names: &Items<Kind>, name: NameId) -> Kind
-    ensures { result ≡ name_kind names.now name }
-{
-    names
-        .as_slice()
-        .get(name.0 as usize)
-        .copied()
-        .unwrap_or(Kind::General)
-}
 
 /// The name at place `j`, where there is one.
 pub(crate) fn name_at(names: &Items<NameId>, j: usize) -> Option<NameId>
@@ -51,16 +40,6 @@ pub(crate) fn last_place(alts: &[TempId]) -> Result<u32, NoMemory>
     ensures { IfOk result (λ place. place ≡ last_place alts.now) }
 {
     number(alts.len().saturating_sub(1))
-}
-
-/// The number of the first of the temporaries that an operand may choose.
-fn first_of(alts: &[TempId]) -> u32
-    ensures { result ≡ first_of alts.now }
-{
-    match alts {
-        [] => 0,
-        [first, ..] => first.0,
-    }
 }
 
 /// Whether the value that an operand reads stands where it is kept from the block's start on.
@@ -158,7 +137,7 @@ fn first_copy(
             let name = name_at(live_in, p.values as usize);
             Ok(spilled_to(slot_at_start(s, p.values, name)?, p.cycle))
         }
-        Definer::Assigns(name) => kept_by_kind(name_kind(names, name), name, p.cycle),
+        Definer::Assigns(name) => kept_by_kind(name_kind(names.as_slice(), name), name, p.cycle),
         Definer::Other => Ok(no_move()),
     }
 }

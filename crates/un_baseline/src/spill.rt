@@ -27,14 +27,14 @@ ghost use Rattle.un_baseline.specs.SpillEverywhere.{setting_of, first_cycle, fir
 ghost use Rattle.un_baseline.specs.SpillEverywhere.{spilled_values};
 
 use crate::copies::{
-    after_copy, copy_move, is_placed, last_place, name_at, name_kind, result_wait, slot_of,
+    after_copy, copy_move, is_placed, last_place, name_at, result_wait, slot_of,
 };
 use crate::plan::{Definer, Move, PREDICATE, Progress, Purpose, Setting};
 use std::alloc::Global;
 use un_base::ids::{NameId, TempId};
 use un_base::memory_error::NoMemory;
 use un_base::numbers::{later, number};
-use un_ir::extended::{Ext, ExtBlock, ExtKind, ExtOp, NodeCopy, Operand};
+use un_ir::extended::{Ext, ExtBlock, ExtKind, ExtOp, NodeCopy, Operand, name_kind};
 use un_ir::function::{Kind, SrcOp, Term};
 use un_isa::op::Op;
 use un_isa::reg::FIRST_SLOT;
@@ -215,7 +215,7 @@ fn handed_place(
         return Ok(0);
     }
     match name {
-        Some(n) => Ok(copies_of(name_kind(names, n))),
+        Some(n) => Ok(copies_of(name_kind(names.as_slice(), n))),
         None => { if j + 1 == count { Ok(1) } else { Ok(0) } }
     }
 }

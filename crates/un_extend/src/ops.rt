@@ -1,6 +1,6 @@
 //! Operations with their copies.
 
-ghost use Rattle.std.specs.Prelude.{◌≡◌, ◌+◌, ◌++◌, map, length, replicate, IfOk, OnOk, unwrap_or, slice_get};
+ghost use Rattle.std.specs.Prelude.{◌≡◌, ◌+◌, ◌++◌, map, length, replicate, IfOk, OnOk};
 ghost use Rattle.un_ir.specs.Extended.{is_return};
 ghost use Rattle.un_ir.specs.ExtendOf.{new_temps, with_op, with_leave, with_enter, with_results, with_extended, with_all_extended};
 ghost use Rattle.un_ir.specs.ExtendOf.{sorts_of, sort_of_name};
@@ -14,7 +14,7 @@ use std::alloc::Global;
 use un_base::ids::{NameId, TempId};
 use un_base::memory_error::NoMemory;
 use un_base::numbers::later;
-use un_ir::extended::{ExtKind, ExtOp, Growth, Operand, Sort};
+use un_ir::extended::{ExtKind, ExtOp, Growth, Operand, Sort, name_kind};
 use un_ir::function::{Kind, Term};
 use un_isa::facts::result_space;
 use un_isa::op::Op;
@@ -105,16 +105,6 @@ fn push_same(sorts: &mut Items<Sort>, sort: Sort, count: usize) -> Result<(), No
         sorts.push(sort)?;
     }
     Ok(())
-}
-
-/// The kind of a name, General where there is no such name.
-fn name_kind(names: &[Kind], name: NameId) -> Kind
-    ensures { result ≡ unwrap_or (slice_get names.now name.0) Kind.General }
-{
-    match names.get(name.0 as usize) {
-        Some(kind) => *kind,
-        None => Kind::General,
-    }
 }
 
 /// Adds the sorts of names, which all have copies.

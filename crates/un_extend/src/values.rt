@@ -3,7 +3,6 @@
 ghost use Rattle.std.specs.Prelude.{◌≡◌, ◌++◌, [], ◌∷◌, ◌<◌, map, length, slice_get, IfOk, OnOk};
 ghost use Rattle.std.specs.List.{range_with_len};
 ghost use Rattle.un_ir.specs.Extended.{temp};
-ghost use Rattle.un_ir.specs.Linear.{first_of};
 ghost use Rattle.un_ir.specs.ExtendOf.{with_value, with_values, with_operand, chosen_from, with_operand_by, alternatives, with_operands};
 ghost use Rattle.un_ir.specs.ExtendOf.{new_operands, copy_count};
 
@@ -12,7 +11,7 @@ use std::alloc::Global;
 use un_base::ids::TempId;
 use un_base::memory_error::NoMemory;
 use un_base::numbers::later;
-use un_ir::extended::{Growth, NodeCopy, Operand, Sort, Value};
+use un_ir::extended::{Growth, NodeCopy, Operand, Sort, Value, first_of};
 use un_lists::items::Items;
 
 /// The temporary `n` of a value of this sort and its own copies, which begin with temporary `next`.
@@ -59,16 +58,6 @@ pub fn push_values(
         n = later(n, 1)?;
     }
     Ok(())
-}
-
-/// The number of the first alternative of an operand.
-fn first_of(x: &Operand) -> u32
-    ensures { result ≡ first_of x.now.alts }
-{
-    match x.alts.as_slice().first() {
-        Some(temp) => temp.0,
-        None => 0,
-    }
 }
 
 /// The copies of an operand that reads a value, behind the value's temporaries so far. The next temporary is `next`.
@@ -118,7 +107,7 @@ fn push_operand(alloc: Global, g: &mut Growth, x: &Operand) -> Result<Operand, N
     ensures grown { OnOk result (g.new ≡ with_operand x.now g.old) }
     ensures operand { IfOk result (λ y. y ≡ chosen_from x.now (with_operand x.now g.old)) }
 {
-    let first = first_of(x) as usize;
+    let first = first_of(x.alts.as_slice()) as usize;
     if first >= g.values.len() {
         return Ok(Operand {
             alts: Items::new(alloc),

@@ -2,10 +2,10 @@
 //! linear SSA form with copy extension and alternative temporaries.
 
 ghost use Rattle.std.specs.Prelude.{◌≡◌};
-ghost use Rattle.un_ir.specs.Extended.{is_copy, is_enter, is_leave};
+ghost use Rattle.un_ir.specs.Extended.{is_copy, is_enter, is_leave, name_kind};
 ghost use Rattle.un_ir.specs.Kinds.{is_optional, is_mandatory, is_delimiter, is_frame_op, has_choices, is_source, is_call_kind, is_fall};
 ghost use Rattle.un_ir.specs.Kinds.{ends_block, issues_kind};
-ghost use Rattle.un_ir.specs.Linear.{is_in};
+ghost use Rattle.un_ir.specs.Linear.{first_of, is_in};
 
 use crate::function::{Kind, NAMES, OPS, PARAMS, SrcOp, Term};
 use std::alloc::AllocError;
@@ -38,6 +38,26 @@ pub const FROM_PREDICATE: u32 = 4;
 
 /// The number of a copy's instruction that moves a truth value from a general register to a predicate.
 pub const TO_PREDICATE: u32 = 5;
+
+/// The kind of a name, by the kinds of all names; General where there is no such name.
+pub fn name_kind(names: &[Kind], name: NameId) -> Kind
+    ensures { result ≡ name_kind names.now name }
+{
+    match names.get(name.0 as usize) {
+        Some(kind) => *kind,
+        None => Kind::General,
+    }
+}
+
+/// The number of the first of the temporaries that an operand may choose: the temporary of its value. 0 where there are none.
+pub fn first_of(alts: &[TempId]) -> u32
+    ensures { result ≡ first_of alts.now }
+{
+    match alts {
+        [] => 0,
+        [first, ..] => first.0,
+    }
+}
 
 /// The names that are live at the start of each block.
 #[derive(Drop)]

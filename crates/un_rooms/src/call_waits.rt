@@ -20,7 +20,6 @@ ghost use Rattle.un_sites.specs.Sites.{place_of};
 ghost use Rattle.un_sites.specs.declared.sites.Spot.{Spot};
 
 use crate::call_sides::on_side;
-use crate::post_twos::first_of;
 use crate::reach::Reach;
 use crate::span::reach_of;
 use crate::wait::Wait;
@@ -28,7 +27,7 @@ use std::alloc::{AllocError, Global};
 use un_base::ids::TempId;
 use un_base::memory_error::NoMemory;
 use un_base::numbers::number;
-use un_ir::extended::{ExtKind, Operand};
+use un_ir::extended::{ExtKind, Operand, first_of};
 use un_isa::packet_counts::PACKET;
 use un_isa::reg::{Reg, Space};
 use un_isa::reg_set::is_in_mask;

@@ -13,10 +13,9 @@ ghost use Rattle.un_sites.specs.Places.{Place};
 ghost use Rattle.un_sites.specs.Sites.{place_of};
 
 use crate::crossings::is_asked;
-use crate::post_twos::first_of;
 use std::alloc::{AllocError, Global};
 use un_base::ids::TempId;
-use un_ir::extended::{ExtKind, Operand};
+use un_ir::extended::{ExtKind, Operand, first_of};
 use un_sites::sites::Spot;
 
 /// Whether a value is marked.

@@ -2,7 +2,6 @@
 //! registers.
 
 ghost use Rattle.std.specs.Prelude.{◌≡◌, ◌+◌, ◌<◌, [], ◌∷◌, ◌++◌, IfOk, OnOk, drop, length, map, slice_get, Some, if◌then◌else◌};
-ghost use Rattle.un_ir.specs.Linear.{first_of};
 ghost use Rattle.un_model.specs.Pairs.{joined, places_from};
 ghost use Rattle.un_kinds.specs.Constraints as constraint;
 ghost use Rattle.un_sites.specs.Places.{definers_of, places_of};
@@ -15,7 +14,7 @@ use std::alloc::Global;
 use un_base::ids::{TempId, VarId};
 use un_base::memory_error::NoMemory;
 use un_base::numbers::number;
-use un_ir::extended::{ExtKind, Operand};
+use un_ir::extended::{ExtKind, Operand, first_of};
 use un_isa::op::Op;
 use un_kinds::make_rect::{OperandFields, make_operands};
 use un_kinds::props::Props;
@@ -33,16 +32,6 @@ pub struct Read<'a> {
     pub it: &'a Operand,
     /// The variable of its choice; None where it has none.
     pub choice: Option<VarId>,
-}
-
-/// The number of the first of these temporaries.
-pub(crate) fn first_of(xs: &[TempId]) -> u32
-    ensures { result ≡ first_of xs.now }
-{
-    match xs {
-        [] => 0,
-        [x, ..] => x.0,
-    }
 }
 
 /// Whether two operands read one value.

@@ -10,9 +10,8 @@ ghost use Rattle.un_sites.specs.Saved.{reads_saved};
 ghost use Rattle.un_sites.specs.Sites.{place_of};
 
 use crate::crossings::is_read;
-use crate::post_twos::first_of;
 use un_base::ids::TempId;
-use un_ir::extended::{ExtBlock, ExtKind, ExtOp, Operand};
+use un_ir::extended::{ExtBlock, ExtKind, ExtOp, Operand, first_of};
 use un_lists::items::Items;
 use un_model::ends::live_in_temps;
 use un_sites::sites::Spot;
