@@ -5,7 +5,7 @@ pub mod Pins
 pub mod Copies
 pub mod Numbering
 pub mod HomeSteps
-pub mod HomeMasks
+pub mod HomeMarks
 pub mod Lists
 pub mod OpDomains
 pub mod PlacedSchedules

@@ -1,31 +1,40 @@
--- Words of private contracts: the homes of values, and which are truth values, as masks. The bit of a general register says that
--- it is a home, and the bit after those that the value is a truth value.
+-- Words of private contracts: what is told of values, that is their homes, and which are truth values. The mark of a general register
+-- says that it is a home, and the mark after those that the value is a truth value.
 use Rattle.std.specs.Prelude.{ℕ, ◌≡◌, ◌≤◌, ◌<◌, Bool, false, ◌==◌, ◌||◌, ◌&&◌, if◌then◌else◌, List, Option, unwrap_or}
 use Rattle.std.specs.BTreeMap.{BTreeMap, get}
 use Rattle.std.specs.List.{list_any}
 use Rattle.std.specs.Ordering.{nat_cmp}
 use Rattle.un_base.specs.declared.ids.NameId.{NameId}
 use Rattle.un_base.specs.declared.ids.TempId.{TempId}
+use Rattle.un_isa.specs.RegSets.{has}
 use Rattle.un_isa.specs.Registers.{saved_registers}
-use Rattle.un_isa.specs.Tables.{in_mask}
 use Rattle.un_isa.specs.declared.reg.Reg.{Reg}
 use Rattle.un_isa.specs.declared.reg.TheConstants.{GENERALS}
 use Rattle.un_ir.specs.declared.extended.ExtBlock.{ExtBlock}
 use Rattle.un_ir.specs.declared.extended.Ext.{Ext}
 use Rattle.un_ir.specs.declared.extended.ExtOp.{ExtOp}
 use Rattle.un_ir.specs.declared.extended.Operand.{Operand}
+use Rattle.un_model.specs.declared.homes.Home.{Home}
 use Rattle.un_model.specs.Pairs.{any_from}
 use Rattle.un_model.specs.Registers.{is_register, reads_value, result_home, gives_truth_at, is_home, is_truth}
 
--- the mask of a temporary, 0 where there is none
-abbrev pub mask_of : BTreeMap ℕ ℕ → TempId → ℕ
-mask_of masks x = unwrap_or (get nat_cmp masks x.0) 0
+-- what is told of a value: no register and no truth value where nothing is
+abbrev pub home_of : BTreeMap ℕ Home → TempId → Home
+home_of homes x = unwrap_or (get nat_cmp homes x.0) (record { registers = 0; truth = false })
 
--- the new masks have the bits that are new, and those of the old masks
-abbrev pub AddsMarks : (TempId → ℕ → Bool) → BTreeMap ℕ ℕ → BTreeMap ℕ ℕ → Type 0
-AddsMarks is_new old new = (x : TempId) (r : ℕ) → r ≤ GENERALS → in_mask (mask_of new x) r ≡ (in_mask (mask_of old x) r || is_new x r)
+-- whether a home has a mark
+abbrev pub tells : Home → ℕ → Bool
+tells home r = if r == GENERALS then home.truth else has home.registers r
 
--- bit r of a value with this home, which is a truth value or not
+-- whether a value has a mark
+abbrev pub is_told : BTreeMap ℕ Home → TempId → ℕ → Bool
+is_told homes x r = tells (home_of homes x) r
+
+-- the new homes have the marks that are new, and those of the old homes
+abbrev pub AddsMarks : (TempId → ℕ → Bool) → BTreeMap ℕ Home → BTreeMap ℕ Home → Type 0
+AddsMarks is_new old new = (x : TempId) (r : ℕ) → r ≤ GENERALS → is_told new x r ≡ (is_told old x r || is_new x r)
+
+-- mark r of a value with this home, which is a truth value or not
 abbrev pub is_mark : Bool → Option Reg → ℕ → Bool
 is_mark truth home r = if r == GENERALS then truth else is_register home r
 
@@ -48,12 +57,12 @@ is_op_mark e is_entry live_in x r op = is_operands_mark op x r || is_results_mar
 abbrev pub is_block_mark : Ext → Bool → ExtBlock → TempId → ℕ → Bool
 is_block_mark e is_entry block x r = list_any (is_op_mark e is_entry block.live_in x r) block.ops
 
--- the masks have the homes of each value of the block, and say which are truth values
-pub record TellsHomes (e : Ext) (is_entry : Bool) (block : ExtBlock) (masks : BTreeMap ℕ ℕ) : Type 0 where
-  pub homes : (x : TempId) (r : ℕ) → r < GENERALS → in_mask (mask_of masks x) r ≡ is_home e.table is_entry block x r
-  pub truths : (x : TempId) → in_mask (mask_of masks x) GENERALS ≡ is_truth e.names block x
+-- the homes of each value of the block are told, and which are truth values
+pub record TellsHomes (e : Ext) (is_entry : Bool) (block : ExtBlock) (told : BTreeMap ℕ Home) : Type 0 where
+  pub homes : (x : TempId) (r : ℕ) → r < GENERALS → has (home_of told x).registers r ≡ is_home e.table is_entry block x r
+  pub truths : (x : TempId) → (home_of told x).truth ≡ is_truth e.names block x
 
 -- the registers that a function hands back, and the homes of the values of a block
-pub record IsScope (e : Ext) (is_entry : Bool) (block : ExtBlock) (saved : List ℕ) (masks : BTreeMap ℕ ℕ) : Type 0 where
+pub record IsScope (e : Ext) (is_entry : Bool) (block : ExtBlock) (saved : List ℕ) (told : BTreeMap ℕ Home) : Type 0 where
   pub saved_are : saved ≡ saved_registers e.table
-  pub homes_are : TellsHomes e is_entry block masks
+  pub homes_are : TellsHomes e is_entry block told

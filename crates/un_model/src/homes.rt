@@ -4,8 +4,7 @@ ghost use Rattle.std.specs.Prelude.{◌≡◌, ℕ, ◌<◌, ◌≤◌, ◌==◌
 ghost use Rattle.std.specs.List.{list_any};
 ghost use Rattle.un_base.specs.declared.ids.TempId.{TempId};
 ghost use Rattle.un_isa.specs.Registers.{saved_registers};
-ghost use Rattle.un_isa.specs.Tables.{in_mask};
-ghost use Rattle.un_model.specs.Homes.{mask_of, AddsMarks, is_mark, is_operand_mark, is_operands_mark, is_result_mark, is_results_mark};
+ghost use Rattle.un_model.specs.Homes.{home_of, AddsMarks, is_mark, is_operand_mark, is_operands_mark, is_result_mark, is_results_mark};
 ghost use Rattle.un_model.specs.Homes.{is_op_mark, is_block_mark, TellsHomes};
 
 use crate::registers::{gives_truth_at, result_home};
@@ -15,39 +14,73 @@ use un_base::ids::{NameId, TempId};
 use un_base::memory_error::NoMemory;
 use un_ir::extended::{Ext, ExtBlock, ExtOp, Operand};
 use un_isa::reg::{GENERALS, Reg};
+use un_isa::reg_set::RegSet;
 use un_lists::items::Items;
 
-/// A mask for each value, by its number: the bit of a general register is set where that register is a home of it, the bit after
-/// those where it is a truth value.
-pub(crate) type Homes = BTreeMap<u32, u64>;
-
-/// The mask of a value, 0 where it has no home and is no truth value.
-pub(crate) fn mask(homes: &Homes, x: TempId) -> u64
-    ensures { result ≡ mask_of homes.now x }
-{
-    homes.get(&x.0).copied().unwrap_or(0)
+/// What is told of a value.
+#[derive(Clone, Copy)]
+pub(crate) struct Home {
+    /// The general registers to which it is preassigned.
+    pub(crate) registers: RegSet,
+    /// Whether it is a truth value.
+    pub(crate) truth: bool,
 }
 
-/// Bit `r` of a value.
-fn add_mark(homes: &mut Homes, x: TempId, r: u32) -> Result<(), NoMemory>
-    requires { r ≤ GENERALS }
+/// What is told of each value, by its number.
+pub(crate) type Homes = BTreeMap<u32, Home>;
+
+/// What is told of a value: no register and no truth value where nothing is.
+pub(crate) fn home_at(homes: &Homes, x: TempId) -> Home
+    ensures { result ≡ home_of homes.now x }
+{
+    match homes.get(&x.0) {
+        Some(home) => *home,
+        None => Home {
+            registers: RegSet::of_mask(0),
+            truth: false,
+        },
+    }
+}
+
+/// That a general register is a home of a value.
+fn add_register(homes: &mut Homes, x: TempId, r: u32) -> Result<(), NoMemory>
+    requires { r < GENERALS }
     ensures { OnOk result (AddsMarks (λ y i. x.0 == y.0 && r == i) homes.old homes.new) }
 {
-    let old = mask(homes, x);
-    match homes.insert(x.0, old | (1 << r)) {
+    let Home {
+        mut registers,
+        truth,
+    } = home_at(homes, x);
+    registers.insert(r);
+    match homes.insert(x.0, Home { registers, truth }) {
         Ok(_) => Ok(()),
         Err(_) => Err(NoMemory),
     }
 }
 
-/// Bit `r` of each of these values.
+/// That a value is a truth value.
+fn add_truth(homes: &mut Homes, x: TempId) -> Result<(), NoMemory>
+    ensures { OnOk result (AddsMarks (λ y i. x.0 == y.0 && GENERALS == i) homes.old homes.new) }
+{
+    let registers = home_at(homes, x).registers;
+    let told = Home {
+        registers,
+        truth: true,
+    };
+    match homes.insert(x.0, told) {
+        Ok(_) => Ok(()),
+        Err(_) => Err(NoMemory),
+    }
+}
+
+/// That a general register is a home of each of these values.
 fn add_alternatives(homes: &mut Homes, alts: &Items<TempId>, r: u32) -> Result<(), NoMemory>
-    requires { r ≤ GENERALS }
+    requires { r < GENERALS }
     ensures { OnOk result
         (AddsMarks (λ y i. list_any (λ t. t.0 == y.0 && r == i) alts.now) homes.old homes.new) }
 {
     for j in 0..alts.len() {
-        add_mark(homes, *alts.get(j), r)?;
+        add_register(homes, *alts.get(j), r)?;
     }
     Ok(())
 }
@@ -75,11 +108,11 @@ fn add_operands(homes: &mut Homes, op: &ExtOp) -> Result<(), NoMemory>
 }
 
 /// That a value is a truth value, where it is.
-fn add_truth(homes: &mut Homes, x: TempId, truth: bool) -> Result<(), NoMemory>
+fn add_kind(homes: &mut Homes, x: TempId, truth: bool) -> Result<(), NoMemory>
     ensures { OnOk result (AddsMarks (λ y i. x.0 == y.0 && (truth && GENERALS == i)) homes.old homes.new) }
 {
     if truth {
-        add_mark(homes, x, GENERALS)?;
+        add_truth(homes, x)?;
     }
     Ok(())
 }
@@ -90,7 +123,7 @@ fn add_own_home(homes: &mut Homes, x: TempId, home: Option<Reg>) -> Result<(), N
 {
     if let Some(reg) = home {
         if reg.0 < GENERALS {
-            add_mark(homes, x, reg.0)?;
+            add_register(homes, x, reg.0)?;
         }
     }
     Ok(())
@@ -100,7 +133,7 @@ fn add_own_home(homes: &mut Homes, x: TempId, home: Option<Reg>) -> Result<(), N
 fn add_result(homes: &mut Homes, x: TempId, truth: bool, home: Option<Reg>) -> Result<(), NoMemory>
     ensures { OnOk result (AddsMarks (λ y i. x.0 == y.0 && is_mark truth home i) homes.old homes.new) }
 {
-    add_truth(homes, x, truth)?;
+    add_kind(homes, x, truth)?;
     add_own_home(homes, x, home)?;
     Ok(())
 }

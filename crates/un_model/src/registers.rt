@@ -4,16 +4,16 @@ ghost use Rattle.std.specs.Prelude.{◌≡◌, ℕ, ◌+◌, ◌-◌, ◌<◌, �
 ghost use Rattle.std.specs.Prelude.{slice_get, slice_index};
 ghost use Rattle.std.specs.List.{range_with_len};
 ghost use Rattle.std.specs.Option.{option_map};
+ghost use Rattle.un_isa.specs.RegSets.{has};
 ghost use Rattle.un_isa.specs.Registers.{saved_registers};
-ghost use Rattle.un_isa.specs.Tables.{in_mask};
 ghost use Rattle.un_model.specs.Registers.{is_assignable, reg_at, name_home, start_home, call_home, result_home, is_pred, is_pred_name};
 ghost use Rattle.un_model.specs.Registers.{gives_truth_at, is_truth, predicate_registers, general_registers, value_registers};
 ghost use Rattle.un_model.specs.Registers.{begins_with_zero, with_zero};
-ghost use Rattle.un_model.specs.Homes.{mask_of, IsScope};
+ghost use Rattle.un_model.specs.Homes.{home_of, IsScope};
 ghost use Rattle.un_model.specs.Variables.{first_alternative, carried, home_domain, source_domain, start_domain, copy_registers};
 ghost use Rattle.un_model.specs.Variables.{result_domain};
 
-use crate::homes::{Homes, mask};
+use crate::homes::{Homes, home_at};
 use crate::instructions::gives_truth;
 use crate::model::Options;
 use std::alloc::Global;
@@ -24,7 +24,7 @@ use un_ir::extended::{Ext, ExtBlock, ExtKind, ExtOp, Operand};
 use un_ir::function::Kind;
 use un_isa::op::Op;
 use un_isa::reg::{FIRST_SLOT, GENERALS, LINK, PREDICATES, Reg, SLOTS, STACK};
-use un_isa::reg_set::{callee_saved, is_in_mask};
+use un_isa::reg_set::{RegSet, callee_saved};
 use un_isa::table::Table;
 use un_lists::items::Items;
 
@@ -180,13 +180,13 @@ pub(crate) fn carried(op: &ExtOp, x: TempId) -> TempId
     }
 }
 
-/// The assignable registers and those of a mask.
-fn assignable(alloc: Global, regs: Option<u32>, mask: u64) -> Result<Vec<u32>, NoMemory>
+/// The assignable registers and those of a set.
+fn assignable(alloc: Global, regs: Option<u32>, set: RegSet) -> Result<Vec<u32>, NoMemory>
     ensures { IfOk result
-        (λ registers. registers.items ≡ filter (λ r. is_assignable regs r || in_mask mask r) (range_with_len 0 GENERALS)) }
+        (λ registers. registers.items ≡ filter (λ r. is_assignable regs r || has set r) (range_with_len 0 GENERALS)) }
 {
     let registers = (0..GENERALS)
-        .filter(|r| is_assignable(regs, *r) || is_in_mask(mask, *r))
+        .filter(|r| is_assignable(regs, *r) || set.contains(*r))
         .collect(alloc)?;
     Ok(registers)
 }
@@ -197,7 +197,7 @@ fn general(alloc: Global, scope: &Scope<'_>, x: TempId) -> Result<Items<u32>, No
     ensures { IfOk result
         (λ registers. registers ≡ general_registers scope.now.ext.now scope.now.options.now.regs scope.now.is_entry scope.now.block.now x) }
 {
-    let registers = assignable(alloc, scope.options.regs, mask(scope.homes, x))?;
+    let registers = assignable(alloc, scope.options.regs, home_at(scope.homes, x).registers)?;
     Ok(Items::from_vec(registers))
 }
 
@@ -206,7 +206,7 @@ pub(crate) fn is_truth(scope: &Scope<'_>, x: TempId) -> bool
     requires { IsScope scope.now.ext.now scope.now.is_entry scope.now.block.now scope.now.saved.now scope.now.homes.now }
     ensures { result ≡ is_truth scope.now.ext.now.names scope.now.block.now x }
 {
-    is_in_mask(mask(scope.homes, x), GENERALS)
+    home_at(scope.homes, x).truth
 }
 
 /// So many numbers from the first on, after those so far.

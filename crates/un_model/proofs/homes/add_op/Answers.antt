@@ -1,5 +1,5 @@
 use Rattle.un_model.specs.Homes.{is_operands_mark, is_results_mark}
-use Rattle.un_model.proofs.HomeMasks.{adds_twice}
+use Rattle.un_model.proofs.HomeMarks.{adds_twice}
 use Rattle.un_model.proofs.homes.add_op.Goals as goal
 
 pub returns : goal.returns

@@ -1,4 +1,4 @@
-use Rattle.un_model.proofs.HomeMasks.{by_operand}
+use Rattle.un_model.proofs.HomeMarks.{by_operand}
 use Rattle.un_model.proofs.homes.add_operand.Goals as goal
 
 pub returns-in_ok-add_alternatives : goal.returns-in_ok-add_alternatives

@@ -1,6 +1,6 @@
 use Rattle.std.proofs.Common.{arith}
 use Rattle.un_model.specs.Homes.{is_op_mark}
-use Rattle.un_model.proofs.HomeMasks.{homes_told}
+use Rattle.un_model.proofs.HomeMarks.{homes_told}
 use Rattle.un_model.proofs.Steps.{any_more, any_all}
 use Rattle.un_model.proofs.homes.homes.Goals as goal
 
