@@ -88,6 +88,36 @@ block e freq 1
   %s = add %s, %v17
   ret %s
 ?first 200:cost 31\
+|# Four values cross the call: the sum's two stand in kept registers, which are spilled, and %c, which is read last, in a slot beside the
+# link: as many Spills as there are packets from Enter to the call, and the Reloads have time behind it.\
+|func late %a %b %c
+block e freq 1
+  %s = imm #0
+  %r = call g %a, %s
+  %t = add %r, %b
+  %s = xor %s, %t
+  %s = add %s, %r
+  %s = sub %s, %c
+  ret %s
+?first 2000:cost 9\
+|# The second call's argument is loaded into its register at once, since what the first call returned leaves it in the packet of the load.\
+|func tree %t
+block e freq 10
+  $z = cmpeqi %t, #0
+  if !$z jump a
+block r freq 5
+  %r = imm #0
+  ret %r
+block a freq 5
+  %l = load %t, #0
+  %a = call tree %l
+  %m = load %t, #4
+  %b = call tree %m
+  %v = load %t, #8
+  %a = add %a, %b
+  %a = add %a, %v
+  ret %a
+?first 2000:cost 70\
 |# Two blocks that want other registers for %c: the call its second argument's, in which it stands, the other return r0, to which it
 # moves in the packet of the return. The branch waits for the compare, and behind the call the link is brought back.\
 |func two %a %b

@@ -6,9 +6,8 @@ use std::alloc::{AllocError, Global};
 use un_ir::extended::{ExtKind, ExtOp, NodeCopy};
 use un_ir::function::{Kind, SrcOp};
 use un_isa::facts::result_space;
-use un_isa::reg::Space;
+use un_isa::reg::{LINK, Space};
 use un_trial::facts::{BlockFacts, Temporary};
-use un_trial::sets::LINK;
 use un_trial::table::{NONE, Table};
 
 /// Which of the values at the block's start a temporary is.

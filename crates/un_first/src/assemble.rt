@@ -3,8 +3,8 @@
 use crate::plan::Plan;
 use std::alloc::{AllocError, Global};
 use un_blocks::facts::{Block, Facts, at};
-use un_trial::facts::{RELOAD, SPILL};
-use un_trial::sets::FIRST_SLOT;
+use un_ir::extended::{RELOAD, SPILL};
+use un_isa::reg::FIRST_SLOT;
 
 /// Another value for a variable.
 fn set(values: &mut [u32], v: u32, x: u32) {

@@ -4,7 +4,8 @@ use crate::places::{Places, taken};
 use std::alloc::{AllocError, Global};
 use un_blocks::facts::{Block, FIRST_KEPT, Facts, KEPT};
 use un_blocks::grid::Grid;
-use un_trial::sets::{EMPTY, FIRST_SLOT, LINK, RegisterSet};
+use un_isa::reg::{FIRST_SLOT, LINK};
+use un_trial::sets::{EMPTY, RegisterSet};
 use un_trial::table::NONE;
 
 /// A start assignment.

@@ -2,10 +2,9 @@
 
 use crate::chance::Noise;
 use crate::places::{Places, taken};
-use un_blocks::facts::{Block, Facts};
-use un_trial::sets::{
-    EMPTY, FIRST_PREDICATE, FIRST_SLOT, PREDICATES, REGISTERS, RegisterSet, Space, space_at,
-};
+use un_blocks::facts::{Block, FIRST_KEPT, Facts, KEPT};
+use un_isa::reg::{FIRST_SLOT, GENERALS};
+use un_trial::sets::{EMPTY, PREDICATES, REGISTERS, RegisterSet, Space, space_at};
 use un_trial::table::NONE;
 
 /// A place for a key in a group.
@@ -126,7 +125,23 @@ fn free_name(facts: &Facts, g: u32, place: u32) -> Option<u32> {
     None
 }
 
-/// A place by chance for a name at one of a block's ends.
+/// A saved value by chance goes to a slot in its region, or back to its register.
+fn saved_change(facts: &Facts, places: &Places, group: u32, noise: &mut Noise) -> Option<Change> {
+    let i = noise.place(KEPT);
+    let key = facts.names.saturating_add(i);
+    let place = if places.at(group, key) < FIRST_SLOT {
+        slot_of(facts, places, key)
+    } else {
+        FIRST_KEPT.saturating_add(i)
+    };
+    if facts.is_free(group, key) {
+        Some(Change { group, key, place })
+    } else {
+        None
+    }
+}
+
+/// A place by chance for a name at one of a block's ends, or for a saved value.
 pub fn any_change(
     facts: &Facts,
     places: &Places,
@@ -139,6 +154,9 @@ pub fn any_change(
     } else {
         block.group_out
     };
+    if frame && noise.one_in(8) {
+        return saved_change(facts, places, group, noise);
+    }
     let key = free_name(facts, group, noise.place(free_names(facts, group)))?;
     let to_slot = noise.one_in(8);
     if to_slot && frame {
@@ -147,7 +165,7 @@ pub fn any_change(
     }
     let is_predicate = facts.name_is_predicate.at(key) && !noise.one_in(4);
     let place = if is_predicate {
-        FIRST_PREDICATE.saturating_add(noise.place(4))
+        GENERALS.saturating_add(noise.place(4))
     } else {
         noise.place(32)
     };

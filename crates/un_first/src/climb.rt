@@ -1,23 +1,77 @@
-//! Hill climbing on the places: a change that costs no more is kept.
+//! Climbing on the places, from record to record: a change is gone on from where it costs no more, and now and then where it costs little
+//! more than the best so far.
 
+use crate::chance::Noise;
 use crate::changes::{Change, any_change, change_place, is_change};
 use crate::places::Places;
-use crate::plan::{Cost, Plan};
+use crate::plan::{Cost, ENDLESS, Plan};
 use crate::search::Search;
 use crate::wishes::{pick_block, wish_of};
-use std::alloc::AllocError;
+use std::alloc::{AllocError, Global};
 use std::mem;
 use un_blocks::facts::Facts;
+use un_blocks::grid::Grid;
 
 /// After so many changes without gain each block gets more trials.
 const PATIENCE: u32 = 400;
 
-/// How far the climb has come: the trials for each block, the changes without gain, and the present plan's cost.
+/// After each so many changes without gain the best plan is the present one again.
+const RETURN: u32 = 64;
+
+/// A plan that costs more than the present one is gone on from once in so many times.
+const DETOUR: u64 = 4;
+
+/// The plans of a climb.
+#[derive(Drop)]
+struct Plans {
+    /// The plan that is changed.
+    present: Plan,
+    /// Room for what a change makes of it.
+    next: Plan,
+    /// The plan that costs least so far.
+    best: Plan,
+}
+
+impl Plans {
+    fn new(alloc: Global, facts: &Facts, start: Plan) -> Result<Plans, AllocError> {
+        let next = blank(alloc, facts)?;
+        let mut best = blank(alloc, facts)?;
+        best.copy_from(&start)?;
+        Ok(Plans {
+            present: start,
+            next,
+            best,
+        })
+    }
+}
+
+/// A plan that stands for none yet.
+fn blank(alloc: Global, facts: &Facts) -> Result<Plan, AllocError> {
+    let places = Grid::filled(alloc, facts.groups, facts.keys, 0)?;
+    Plan::new(alloc, facts, places, false)
+}
+
+/// How far the climb has come: the trials for each block, the changes without gain, and what plans cost.
 #[derive(Clone, Copy)]
 struct Climb {
     effort: u64,
     idle: u32,
+    /// What the present plan costs.
     cost: Cost,
+    /// What the best plan costs.
+    record: Cost,
+}
+
+impl Climb {
+    /// What a plan may cost to be gone on from: by chance, an eighth more than the best at most.
+    fn limit(self, noise: &mut Noise) -> u64 {
+        let mut slack = self.record.cycles / 8;
+        for _ in 0..noise.below(8) {
+            slack /= 2;
+        }
+        let limit = self.record.cycles.saturating_add(slack);
+        limit.max(self.cost.cycles)
+    }
 }
 
 /// Whether the places of a group differ.
@@ -80,74 +134,88 @@ impl<'a> Search<'a> {
         Ok(true)
     }
 
-    /// What a changed plan costs, by two trials a block and then by all; None where it is more than the present one.
+    /// What a changed plan costs, by two trials a block and then by all; None where it is not gone on from.
     fn cost_of_change(&mut self, next: &mut Plan, now: Climb) -> Result<Option<Cost>, AllocError> {
-        let slack = now.cost.cycles.saturating_add(now.cost.cycles / 16);
+        let limit = now.limit(&mut self.noise);
+        let slack = limit.saturating_add(limit / 16);
         if self.cost(next, 2, slack)?.is_none() {
             return Ok(None);
         }
-        match self.cost(next, now.effort, now.cost.cycles)? {
-            Some(cost) if !now.cost.is_below(cost) => Ok(Some(cost)),
+        match self.cost(next, now.effort, limit)? {
+            Some(cost) if !now.cost.is_below(cost) || self.noise.one_in(DETOUR) => Ok(Some(cost)),
             _ => Ok(None),
         }
     }
 
-    /// Makes more trials of the present plan, at the start and after idle changes.
-    fn refresh(&mut self, plan: &mut Plan, now: Climb) -> Result<Climb, AllocError> {
+    /// Makes more trials of the present plan.
+    fn refresh(&mut self, plans: &mut Plans, now: Climb) -> Result<Climb, AllocError> {
         let mut new = now;
+        if let Some(cost) = self.cost(&mut plans.present, now.effort, u64::MAX)? {
+            new.cost = cost;
+        }
+        self.note(plans, new)
+    }
+
+    /// Goes back to the best plan, with more trials for each block where nothing was gained for long.
+    fn go_back(&mut self, plans: &mut Plans, now: Climb) -> Result<Climb, AllocError> {
+        let mut new = now;
+        plans.present.copy_from(&plans.best)?;
+        new.cost = now.record;
         if now.idle > PATIENCE {
             new.idle = 0;
             new.effort = now.effort.saturating_mul(2);
-            new.cost.cycles = u64::MAX;
+            return self.refresh(plans, new);
         }
-        if new.cost.cycles == u64::MAX {
-            new.cost = self.cost(plan, new.effort, u64::MAX)?.unwrap_or(new.cost);
-            self.remember(plan)?;
+        Ok(new)
+    }
+
+    /// Makes the present plan's recipes the first ones, and keeps it where it costs less than the best.
+    fn note(&mut self, plans: &mut Plans, now: Climb) -> Result<Climb, AllocError> {
+        let mut new = now;
+        self.remember(&plans.present)?;
+        if now.cost.is_below(now.record) {
+            new.idle = 0;
+            new.record = now.cost;
+            plans.best.copy_from(&plans.present)?;
         }
-        new.idle = new.idle.saturating_add(1);
         Ok(new)
     }
 
     /// Tries one change.
-    fn step(&mut self, plan: &mut Plan, next: &mut Plan, now: Climb) -> Result<Climb, AllocError> {
-        let mut new = self.refresh(plan, now)?;
-        if !self.change(plan, next)? {
+    fn step(&mut self, plans: &mut Plans, now: Climb) -> Result<Climb, AllocError> {
+        let mut new = now;
+        new.idle = now.idle.saturating_add(1);
+        if new.idle % RETURN == 0 {
+            new = self.go_back(plans, new)?;
+        }
+        if !self.change(&plans.present, &mut plans.next)? {
             return Ok(new);
         }
-        let Some(cost) = self.cost_of_change(next, new)? else {
+        let Some(cost) = self.cost_of_change(&mut plans.next, new)? else {
             return Ok(new);
         };
-        if cost.is_below(new.cost) {
-            new.idle = 0;
-        }
         new.cost = cost;
-        mem::swap(plan, next);
-        self.remember(plan)?;
-        Ok(new)
+        mem::swap(&mut plans.present, &mut plans.next);
+        self.note(plans, new)
     }
 
-    /// Changes places until `reserve` trials are left. `next` has as many blocks as the plan.
-    pub fn climb(
-        &mut self,
-        plan: &mut Plan,
-        next: &mut Plan,
-        reserve: u64,
-    ) -> Result<(), AllocError> {
-        let mut now = Climb {
+    /// Changes places until `reserve` trials are left. Answers the best plan.
+    pub fn climb(&mut self, alloc: Global, start: Plan, reserve: u64) -> Result<Plan, AllocError> {
+        let mut plans = Plans::new(alloc, self.facts, start)?;
+        let begin = Climb {
             effort: 4,
             idle: 0,
-            cost: Cost {
-                cycles: u64::MAX,
-                copies: u64::MAX,
-            },
+            cost: ENDLESS,
+            record: ENDLESS,
         };
+        let mut now = self.refresh(&mut plans, begin)?;
         for _ in 0..self.left.saturating_mul(4) {
-            if self.left <= reserve || now.cost.cycles <= self.least {
+            if self.left <= reserve || now.record.cycles <= self.least {
                 break;
             }
-            now = self.step(plan, next, now)?;
+            now = self.step(&mut plans, now)?;
         }
-        Ok(())
+        Ok(plans.best)
     }
 
     /// Makes more and more trials for the blocks above their least ends.

@@ -5,13 +5,11 @@ ghost use Rattle.un_model.specs.Solutions.{IsSolution};
 ghost use Rattle.un_model.specs.Variables.{IsModel};
 
 use crate::assemble::assembled;
-use crate::plan::Plan;
 use crate::search::Search;
 use crate::start::best_start;
 use std::alloc::{AllocError, Global};
 use un_base::memory_error::NoMemory;
 use un_blocks::facts::Facts;
-use un_blocks::grid::Grid;
 use un_blocks::groups::facts;
 use un_lists::items::Items;
 use un_model::model::{Model, Solution};
@@ -36,20 +34,6 @@ pub fn judged(alloc: Global, m: &Model, values: Vec<u32>) -> Result<Option<Solut
     }
 }
 
-/// Climbs from a plan, and spends the trials that are left.
-fn improve(
-    alloc: Global,
-    search: &mut Search<'_>,
-    plan: &mut Plan,
-    reserve: u64,
-) -> Result<(), AllocError> {
-    let places = Grid::filled(alloc, search.facts.groups, search.facts.keys, 0)?;
-    let mut next = Plan::new(alloc, search.facts, places, plan.frame)?;
-    search.climb(plan, &mut next, reserve)?;
-    search.spend(plan)?;
-    Ok(())
-}
-
 /// The values that a search with so many trials finds.
 fn searched(alloc: Global, facts: &Facts, budget: u64) -> Result<Option<Vec<u32>>, AllocError> {
     let Some(first) = facts.blocks.as_slice().first() else {
@@ -57,10 +41,11 @@ fn searched(alloc: Global, facts: &Facts, budget: u64) -> Result<Option<Vec<u32>
     };
     let mut search = Search::new(alloc, facts, first, budget)?;
     let quarter = budget / 4;
-    let Some(mut plan) = best_start(alloc, &mut search, budget.saturating_sub(quarter))? else {
+    let Some(start) = best_start(alloc, &mut search, budget.saturating_sub(quarter))? else {
         return Ok(None);
     };
-    improve(alloc, &mut search, &mut plan, quarter)?;
+    let mut plan = search.climb(alloc, start, quarter)?;
+    search.spend(&mut plan)?;
     let values = assembled(alloc, facts, &plan)?;
     Ok(Some(values))
 }

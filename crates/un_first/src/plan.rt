@@ -170,6 +170,18 @@ impl Plan {
     }
 }
 
+impl Plan {
+    /// Makes the plan another one of the same function.
+    pub fn copy_from(&mut self, other: &Plan) -> Result<(), AllocError> {
+        self.places.copy_from(&other.places)?;
+        self.frame = other.frame;
+        for (mine, block) in self.blocks.iter_mut().zip(other.blocks.as_slice()) {
+            mine.copy_from(block)?;
+        }
+        Ok(())
+    }
+}
+
 fn block_plans(alloc: Global, count: usize) -> Result<Vec<BlockPlan>, AllocError> {
     let mut list = Vec::new(alloc);
     for _ in 0..count {

@@ -121,7 +121,11 @@ impl<'a> Search<'a> {
             self.recipe.copy_from(block.facts.body.as_slice(), manner)?;
         }
         if self.noise.one_in(8) {
-            self.recipe.manner = manner;
+            self.recipe.manner.spill_saved = manner.spill_saved;
+            self.recipe.manner.link_first = manner.link_first;
+        }
+        if mine.tried > 1 && block.has_call() && self.noise.one_in(3) {
+            self.change_manner(block);
         }
         let moves = self.noise.below(MOVES).saturating_add(1);
         for _ in 0..moves {
@@ -130,11 +134,33 @@ impl<'a> Search<'a> {
         Ok(())
     }
 
+    /// Changes by chance what the recipe's trial does about calls.
+    fn change_manner(&mut self, block: &Block) {
+        match self.noise.below(6) {
+            0 => self.recipe.manner.to_arguments = !self.recipe.manner.to_arguments,
+            1 => self.recipe.manner.save_at_once = !self.recipe.manner.save_at_once,
+            _ => self.change_crossing(block),
+        }
+    }
+
+    /// Changes by chance where one of a block's values stands where it crosses a call.
+    fn change_crossing(&mut self, block: &Block) {
+        let t = self.noise.place(block.facts.temporaries.len());
+        let v = block.temporary(t).value;
+        let manner = &mut self.recipe.manner;
+        manner.in_slots = manner.in_slots.without(v);
+        manner.kept_late = manner.kept_late.without(v);
+        match self.noise.below(3) {
+            0 => manner.in_slots = manner.in_slots.with(v),
+            1 => manner.kept_late = manner.kept_late.with(v),
+            _ => {}
+        }
+    }
+
     fn next_recipe(&mut self, b: u32, block: &Block, mine: &BlockPlan) -> Result<(), AllocError> {
-        let manner = Manner {
-            spill_saved: self.noise.one_in(2),
-            link_first: self.noise.one_in(2),
-        };
+        let mut manner = PLAIN;
+        manner.spill_saved = self.noise.one_in(2);
+        manner.link_first = self.noise.one_in(2);
         if mine.tried == 0 {
             self.first_recipe(b, block, manner)
         } else {

@@ -27,7 +27,7 @@ use un_post::post::{Posted, post};
 pub const TRIALS: u32 = 1_000;
 
 /// How often they may be tried for each node, where that is more.
-const TRIALS_OF_NODE: u32 = 4;
+const TRIALS_OF_NODE: u32 = 8;
 
 /// How often they may be tried at most.
 const MOST_TRIALS: u32 = 64_000;

@@ -2,22 +2,13 @@
 
 use crate::sets::Space;
 use crate::table::Table;
+use un_ir::extended::{FROM_PREDICATE, MOVE, RELOAD, SPILL, TO_PREDICATE};
 
 /// Needs of a packet: instructions, memory, stores, X and C together, control.
 pub type Needs = [u8; 5];
 
 /// What a packet has of each of its needs, in their order.
 pub const ROOM: Needs = [4, 2, 1, 2, 1];
-
-pub const MOVE: u32 = 1;
-
-pub const SPILL: u32 = 2;
-
-pub const RELOAD: u32 = 3;
-
-pub const FROM_PREDICATE: u32 = 4;
-
-pub const TO_PREDICATE: u32 = 5;
 
 /// The instruction of a copy between two spaces.
 pub fn copy_instruction(from: Space, to: Space) -> Option<u32> {

@@ -1,18 +1,10 @@
 //! Registers and slots, and sets of them.
 
 use crate::table::NONE;
+use un_isa::reg::{FIRST_SLOT, GENERALS};
 
-/// How many registers and slots there are: r0 to r31, p0 to p3, then the slots.
-pub const REGISTERS: u32 = 100;
-
-/// The number of p0.
-pub const FIRST_PREDICATE: u32 = 32;
-
-/// The number of the first slot.
-pub const FIRST_SLOT: u32 = 36;
-
-/// The link register, which holds the address to return to.
-pub const LINK: u32 = 31;
+/// How many registers and slots there are in a trial: r0 to r31, p0 to p3, then at most 64 slots.
+pub const REGISTERS: u32 = FIRST_SLOT + 64;
 
 /// A set of registers and slots below 128.
 #[derive(Clone, Copy, PartialEq)]
@@ -108,6 +100,36 @@ impl RegisterSet {
     }
 }
 
+/// A set of a block's values, by their numbers modulo 128: two values whose numbers differ by 128 are in it together.
+#[derive(Clone, Copy, PartialEq)]
+pub struct ValueSet {
+    remainders: RegisterSet,
+}
+
+/// No value.
+pub const NO_VALUES: ValueSet = ValueSet { remainders: EMPTY };
+
+impl ValueSet {
+    /// Whether a value is in the set.
+    pub fn has(self, v: u32) -> bool {
+        self.remainders.has(v % 128)
+    }
+
+    /// With one value more.
+    pub fn with(self, v: u32) -> ValueSet {
+        ValueSet {
+            remainders: self.remainders.with(v % 128),
+        }
+    }
+
+    /// With one value less.
+    pub fn without(self, v: u32) -> ValueSet {
+        ValueSet {
+            remainders: self.remainders.without(v % 128),
+        }
+    }
+}
+
 /// Where a value stands.
 #[derive(Clone, Copy, PartialEq)]
 pub enum Space {
@@ -118,7 +140,7 @@ pub enum Space {
 
 /// The space of a register, predicate register or slot.
 pub fn space_at(r: u32) -> Space {
-    if r < FIRST_PREDICATE {
+    if r < GENERALS {
         Space::General
     } else if r < FIRST_SLOT {
         Space::Predicate

@@ -11,7 +11,7 @@ mod spills;
 
 use crate::facts::{BlockFacts, Needs, Operand, Operation, ROOM, Temporary};
 use crate::pairs::Pairs;
-use crate::sets::{ALL, EMPTY, REGISTERS, RegisterSet};
+use crate::sets::{ALL, EMPTY, NO_VALUES, REGISTERS, RegisterSet, ValueSet};
 use crate::table::{NONE, Table};
 use std::alloc::{AllocError, Global};
 
@@ -22,12 +22,25 @@ pub struct Manner {
     pub spill_saved: bool,
     /// Whether the link, which each call overwrites, is spilled before all else where there is a call.
     pub link_first: bool,
+    /// The values that go to slots where they cross a call, and not to kept registers.
+    pub in_slots: ValueSet,
+    /// The values that are defined in any register and copied to a kept one at the call that they cross; the others that cross a call
+    /// are defined in a kept register, where one is free.
+    pub kept_late: ValueSet,
+    /// Whether a result that the next call reads as an argument is defined in the argument's register, where that is free.
+    pub to_arguments: bool,
+    /// Whether a call's result that crosses the next call is saved from that at once.
+    pub save_at_once: bool,
 }
 
 /// Nothing besides.
 pub const PLAIN: Manner = Manner {
     spill_saved: false,
     link_first: false,
+    in_slots: NO_VALUES,
+    kept_late: NO_VALUES,
+    to_arguments: false,
+    save_at_once: false,
 };
 
 /// What a trial is made of, besides its order and the places of the keys.

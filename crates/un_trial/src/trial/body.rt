@@ -103,6 +103,28 @@ impl<'a> Trial<'a> {
         }
     }
 
+    /// The register in which the next call reads a value as an argument; NONE where it does not.
+    fn argument_register(&self, v: u32) -> u32 {
+        let call = self.operation(self.order.at(self.marks.next_call));
+        for x in &call.operands {
+            if x.value == v {
+                return x.home;
+            }
+        }
+        NONE
+    }
+
+    /// Where a result should stand: where the next call reads it, if the manner asks for that, else where it ends.
+    fn wanted_place(&self, v: u32) -> u32 {
+        if self.task.manner.to_arguments && self.marks.next_call != NONE {
+            let r = self.argument_register(v);
+            if r != NONE {
+                return r;
+            }
+        }
+        self.value_ends_in(v)
+    }
+
     pub(super) fn place_body(&mut self, o: u32) -> Option<()> {
         let op = self.operation(o);
         self.acquire_all(op)?;
@@ -113,7 +135,7 @@ impl<'a> Trial<'a> {
             self.issue(o, cycle, op.needs);
             return self.read_all(cycle);
         }
-        let hint = self.value_ends_in(op.result);
+        let hint = self.wanted_place(op.result);
         let is_predicate = self.temporary(op.result).is_predicate;
         let register = self.take(is_predicate, op.result, earliest, hint)?;
         let cycle = self.first_fit(earliest.max(self.free_from.at(register)), op.needs);

@@ -3,8 +3,9 @@
 use super::Trial;
 use crate::facts::Operand;
 use crate::pairs::Pairs;
-use crate::sets::{ALL, CLOBBERED, EMPTY, FIRST_SLOT, GENERAL, LINK, PREDICATES};
+use crate::sets::{ALL, CLOBBERED, EMPTY, GENERAL, PREDICATES};
 use crate::table::NONE;
+use un_isa::reg::{FIRST_SLOT, LINK};
 
 impl<'a> Trial<'a> {
     /// The values that a call would destroy, by next use.
@@ -24,11 +25,12 @@ impl<'a> Trial<'a> {
         Some(list)
     }
 
-    /// Saves a value from a call: a copy in a kept register, else in a slot. The link and what only `out` reads go to their slots.
+    /// Saves a value from a call: a copy in a kept register, else in a slot. The link and what only `out` reads go to their slots, and
+    /// so does what the manner says.
     fn save(&mut self, v: u32) -> Option<u32> {
         let x = self.temporary(v);
         let is_read_at_end = x.saved == LINK || self.use_behind.at(v) > self.length();
-        let to_slot = is_read_at_end && self.ends_in_slot(v);
+        let to_slot = is_read_at_end && self.ends_in_slot(v) || self.task.manner.in_slots.has(v);
         let (copy, from) = if self.is_resident(v) {
             (x.copy, v)
         } else {
@@ -98,7 +100,7 @@ impl<'a> Trial<'a> {
         self.choose_all(operands, &got)?;
         self.save_all(&late)?;
         self.issue_call(o, &got);
-        Some(())
+        self.save_result(o)
     }
 
     /// Lets go what a call overwrites. Answers the cycle from which it may issue.
@@ -144,5 +146,16 @@ impl<'a> Trial<'a> {
             self.occupy(op.result, 0, cycle, op.latency);
             self.release_if_dead(op.result);
         }
+    }
+
+    /// Saves a call's result from the next call at once, where it crosses that and the manner asks for it: its register is free then.
+    fn save_result(&mut self, o: u32) -> Option<()> {
+        let v = self.operation(o).result;
+        if self.task.manner.save_at_once && v != NONE && self.crosses(v) {
+            self.marks.locked = EMPTY;
+            self.save(v)?;
+            self.release(v);
+        }
+        Some(())
     }
 }

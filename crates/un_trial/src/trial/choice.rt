@@ -1,8 +1,9 @@
 //! The choice of registers.
 
 use super::Trial;
-use crate::sets::{FIRST_SLOT, GENERAL, KEPT, PREDICATES, RegisterSet};
+use crate::sets::{GENERAL, KEPT, PREDICATES, RegisterSet};
 use crate::table::NONE;
+use un_isa::reg::FIRST_SLOT;
 
 impl<'a> Trial<'a> {
     /// What speaks against a register: the cycle from which a value can stand there, and a taste.

@@ -3,8 +3,9 @@
 use super::Trial;
 use crate::facts::Operand;
 use crate::pairs::Pairs;
-use crate::sets::{EMPTY, FIRST_SLOT, LINK, REGISTERS, Space};
+use crate::sets::{EMPTY, REGISTERS, Space};
 use crate::table::NONE;
+use un_isa::reg::{FIRST_SLOT, LINK};
 
 impl<'a> Trial<'a> {
     fn begin(&mut self) -> Option<()> {

@@ -4,8 +4,9 @@
 use super::{Trial, place_of};
 use crate::facts::{Operand, copy_instruction};
 use crate::pairs::{LAST, Pair, Pairs};
-use crate::sets::{FIRST_SLOT, GENERAL, PREDICATES, RegisterSet, Space, space_at};
+use crate::sets::{GENERAL, PREDICATES, RegisterSet, Space, space_at};
 use crate::table::NONE;
+use un_isa::reg::FIRST_SLOT;
 
 impl<'a> Trial<'a> {
     /// How late a source is: slots come last.
@@ -100,7 +101,7 @@ impl<'a> Trial<'a> {
         if is_predicate {
             self.take_predicate(earliest, hint)
         } else {
-            self.take_general(earliest, hint, self.crosses(v))
+            self.take_general(earliest, hint, self.wants_kept(v))
         }
     }
 
@@ -231,8 +232,23 @@ impl<'a> Trial<'a> {
         Some(made)
     }
 
-    /// The place of the first wanted register that can be filled now.
+    /// The place of the first wanted register that is empty.
+    fn first_empty(&self, wanted: &Pairs) -> Option<u32> {
+        for i in 0..wanted.len() {
+            let register = wanted.at(i).item;
+            if self.occupant.at(register) == NONE && !self.marks.locked.has(register) {
+                return Some(i);
+            }
+        }
+        None
+    }
+
+    /// The place of the first wanted register that can be filled now: an empty one where there is one, since what would be let go
+    /// for another may be what others are copied from first.
     fn first_vacant(&mut self, reader: u32, wanted: &Pairs) -> Option<u32> {
+        if let Some(i) = self.first_empty(wanted) {
+            return Some(i);
+        }
         for i in 0..wanted.len() {
             if self.vacate(wanted.at(i).item, reader, wanted) {
                 return Some(i);

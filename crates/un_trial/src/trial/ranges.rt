@@ -2,8 +2,9 @@
 
 use super::{Stay, Trial};
 use crate::facts::Operand;
-use crate::sets::{ALL, FIRST_SLOT, REGISTERS, RegisterSet, SLOTS, Space, space_at};
+use crate::sets::{ALL, REGISTERS, RegisterSet, SLOTS, Space, space_at};
 use crate::table::NONE;
+use un_isa::reg::FIRST_SLOT;
 
 impl<'a> Trial<'a> {
     pub(super) fn register_of(&self, t: u32) -> u32 {
@@ -79,6 +80,12 @@ impl<'a> Trial<'a> {
         let x = self.temporary(v);
         let is_read = x.readers.iter().any(|o| self.position_of.at(*o) > call);
         is_read || x.at_end != NONE && !self.ends_in_slot(v)
+    }
+
+    /// Whether a value is to stand in a kept register before the call that it crosses.
+    pub(super) fn wants_kept(&self, v: u32) -> bool {
+        let manner = &self.task.manner;
+        self.crosses(v) && !manner.in_slots.has(v) && !manner.kept_late.has(v)
     }
 
     /// Whether a temporary that every later reader of a value may choose stands in one of these registers, another than `t`.

@@ -1,9 +1,11 @@
 //! Copies, spills and evictions.
 
 use super::Trial;
-use crate::facts::{RELOAD, SPILL, copy_instruction, copy_latency, copy_needs};
-use crate::sets::{FIRST_SLOT, LINK, REGISTERS, RegisterSet, Space, space_at};
+use crate::facts::{copy_instruction, copy_latency, copy_needs};
+use crate::sets::{REGISTERS, RegisterSet, Space, space_at};
 use crate::table::NONE;
+use un_ir::extended::{RELOAD, SPILL};
+use un_isa::reg::{FIRST_SLOT, LINK};
 
 impl<'a> Trial<'a> {
     pub(super) fn copy_is_left(&self, o: u32) -> bool {
@@ -180,7 +182,7 @@ impl<'a> Trial<'a> {
     pub(super) fn evict_predicate(&mut self, t: u32) -> Option<u32> {
         let v = self.value_of(t);
         if self.is_needed(t) {
-            self.to_general(v, self.crosses(v))?;
+            self.to_general(v, self.wants_kept(v))?;
         }
         self.leave(t)
     }
