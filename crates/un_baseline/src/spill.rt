@@ -26,9 +26,7 @@ ghost use Rattle.un_baseline.specs.SpillEverywhere.{other_progress, after_end, p
 ghost use Rattle.un_baseline.specs.SpillEverywhere.{setting_of, first_cycle, first_progress, block_end, block_plan, block_plans};
 ghost use Rattle.un_baseline.specs.SpillEverywhere.{spilled_values};
 
-use crate::copies::{
-    after_copy, copy_move, is_placed, last_place, name_at, result_wait, slot_of,
-};
+use crate::copies::{after_copy, copy_move, is_placed, last_place, name_at, result_wait, slot_of};
 use crate::plan::{Definer, Move, PREDICATE, Progress, Purpose, Setting};
 use std::alloc::Global;
 use un_base::ids::{NameId, TempId};
