@@ -1,11 +1,11 @@
 #!/usr/bin/env python3
 """How good and how fast the first solution is: first.py [TRIALS] [FOLDER..].
 
-Runs `inspect first` on the functions of folders (the examples and those of functions.py where none is named), and prints for each what the
-first solution costs, the root's bound, the cost of keeping each name in a frame slot, and the milliseconds of the first solution alone; and
-for each group the geometric means of cost over bound and of cost over that of the frame slots, how many meet the bound, the mean and the
-greatest time, and how many functions had none or one that was refused. Run it by hand, after `./unison build inspect`; the gate does not
-run it.
+Runs `inspect first` on the functions of folders (the examples, the kernels and those of functions.py where none is named), and prints for
+each what the first solution costs, the root's bound, the cost of keeping each name in a frame slot, and the milliseconds of the first
+solution alone; and for each group the geometric means of cost over bound and of cost over that of the frame slots, how many meet the bound,
+the mean and the greatest time, and how many functions had none or one that was refused. Run it by hand, after `./unison build inspect`; the
+gate does not run it.
 """
 import os
 import re

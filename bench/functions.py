@@ -1,9 +1,11 @@
 #!/usr/bin/env python3
-"""Functions to measure on, written as files NAME.uni into a folder: functions.py FOLDER.
+"""Functions to measure on, written as files NAME.uni into a folder: functions.py FOLDER. Kernels written by hand stand beside, in kernels/.
 
 - `gen-S-Z`: functions drawn by a linear generator from seed S (0 to 9), with Z blocks (1, 2, 3, 4, 8 and 16).
 - `made-N-K`: functions of N operations (20 to 80) in one to eight blocks, with up to 40 names, loads, stores and calls, from a fixed seed.
+- `calling-N-K`: the like of 10 to 60 operations in one to six blocks, with up to 24 names and at least one call.
 """
+import dataclasses
 import math
 import os
 import random
@@ -47,48 +49,70 @@ def generated(seed, size):
     return "\n".join([*lines, "  ret %v0", ""])
 
 
-def made(ops, number):
+@dataclasses.dataclass
+class Mix:
+    """What functions are drawn from: choices, each made once a function, and chances, each of an operation."""
+
+    seed: str
+    blocks: list
+    calls: list
+    names: list
+    frequencies: list
+    recent: int
+    renamed: float
+    load: float
+    store: float
+    compare: float
+    mux: float
+    literal: float
+    back: float
+
+
+MADE = Mix("", [1, 1, 2, 3, 4, 8], [0, 0, 0.05, 0.1], [36], [1, 10, 100, 1000], 12, 0.2, 0.12, 0.06, 0.06, 0.06, 0, 0.7)
+CALLING = Mix("fx ", [1, 2, 3, 4, 6], [0.05, 0.1, 0.15, 0.2], [8, 12, 16, 24], [1, 10, 100], 8, 0.3, 0.15, 0.05, 0.06, 0.04, 0.1, 0.8)
+
+
+def operation(draw, mix, calls, known, to):
+    """An operation, and whether it assigns `to`."""
+    a, c = draw.choice(known[-mix.recent:]), draw.choice(known)
+    kind = draw.random() - calls
+    if kind < 0:
+        return f"{to} = call h {a}, {c}", True
+    if kind < mix.load:
+        return f"{to} = load {a}, #{4 * draw.randrange(16)}", True
+    if kind < mix.load + mix.store:
+        return f"store {a}, #{4 * draw.randrange(16)}, {c}", False
+    if kind < mix.load + mix.store + mix.compare:
+        return f"$p = cmpgt {a}, {c}", False
+    if kind < mix.load + mix.store + mix.compare + mix.mux:
+        return f"{to} = mux $p, {a}, {c}", True
+    if kind < mix.load + mix.store + mix.compare + mix.mux + mix.literal:
+        return f"{to} = addi {a}, #{draw.randrange(64)}", True
+    return f"{to} = {draw.choice(['add', 'sub', 'and', 'or', 'xor', 'mpyi'])} {a}, {c}", True
+
+
+def made(ops, number, mix):
     """A function of so many operations."""
-    draw = random.Random(f"{ops} {number}")
-    blocks = draw.choice([1, 1, 2, 3, 4, 8])
-    calls = draw.choice([0, 0, 0.05, 0.1])
+    draw = random.Random(f"{mix.seed}{ops} {number}")
+    blocks, calls = draw.choice(mix.blocks), draw.choice(mix.calls)
+    names = draw.choice(mix.names) if len(mix.names) > 1 else mix.names[0]
     known = ["%a", "%b", "%c"]
     lines = ["func made %a %b %c", "block b0 freq 1", "  $p = cmpgt %a, %b"]
     per = max(1, (ops - 1) // blocks)
     left = ops - 1
     for block in range(blocks):
         if block:
-            lines.append(f"block b{block} freq {draw.choice([1, 10, 100, 1000])}")
+            lines.append(f"block b{block} freq {draw.choice(mix.frequencies)}")
         for _ in range(left if block == blocks - 1 else per):
             left -= 1
-            if len(known) < 36 and (block == 0 or draw.random() < 0.2):
-                to = f"%n{len(known)}"
-                if block == 0:
-                    fresh = True
-                else:
-                    fresh = False
-                    to = draw.choice(known)
-            else:
-                to, fresh = draw.choice(known), False
-            a, c = draw.choice(known[-12:]), draw.choice(known)
-            kind = draw.random()
-            if kind < calls:
-                lines.append(f"  {to} = call h {a}, {c}")
-            elif kind < calls + 0.12:
-                lines.append(f"  {to} = load {a}, #{4 * draw.randrange(16)}")
-            elif kind < calls + 0.18:
-                lines.append(f"  store {a}, #{4 * draw.randrange(16)}, {c}")
-                continue
-            elif kind < calls + 0.24:
-                lines.append(f"  $p = cmpgt {a}, {c}")
-                continue
-            elif kind < calls + 0.30:
-                lines.append(f"  {to} = mux $p, {a}, {c}")
-            else:
-                lines.append(f"  {to} = {draw.choice(['add', 'sub', 'and', 'or', 'xor', 'mpyi'])} {a}, {c}")
-            if fresh:
+            new = len(known) < names and (block == 0 or draw.random() < mix.renamed)
+            fresh = new and block == 0
+            to = f"%n{len(known)}" if fresh else draw.choice(known)
+            text, assigns = operation(draw, mix, calls, known, to)
+            lines.append(f"  {text}")
+            if fresh and assigns:
                 known.append(to)
-        if 0 < block < blocks - 1 and draw.random() < 0.7:
+        if 0 < block < blocks - 1 and draw.random() < mix.back:
             lines.append(f"  if $p jump b{draw.randrange(1, block + 1)}")
     return "\n".join([*lines, f"  ret {draw.choice(known)}", ""])
 
@@ -97,17 +121,20 @@ def write(folder):
     """Writes all of them."""
     os.makedirs(folder, exist_ok=True)
     texts = {f"gen-{seed}-{size}": generated(seed, size) for seed in range(10) for size in (1, 2, 3, 4, 8, 16)}
-    texts |= {f"made-{ops}-{number}": made(ops, number) for ops in range(20, 81, 10) for number in range(7)}
+    texts |= {f"made-{ops}-{number}": made(ops, number, MADE) for ops in range(20, 81, 10) for number in range(7)}
+    drawn = {f"calling-{ops}-{number}": made(ops, number, CALLING) for ops in (10, 15, 20, 25, 30, 40, 50, 60) for number in range(10)}
+    texts |= {name: text for name, text in drawn.items() if "call" in text}
     for name, text in texts.items():
         with open(f"{folder}/{name}.uni", "w", encoding="utf-8") as file:
             file.write(text)
 
 
 def read(folders):
-    """The functions of folders, the examples and those above where none is named: the group, the name and the text of each."""
+    """The functions of folders, the examples, the kernels and those above where none is named: the group, the name and the text of each."""
     if not folders:
-        folders = [f"{os.path.dirname(os.path.dirname(os.path.realpath(__file__)))}/examples", tempfile.mkdtemp(prefix="unison-functions-")]
-        write(folders[1])
+        top = os.path.dirname(os.path.dirname(os.path.realpath(__file__)))
+        folders = [f"{top}/examples", f"{top}/bench/kernels", tempfile.mkdtemp(prefix="unison-functions-")]
+        write(folders[-1])
     for folder in folders:
         for name in sorted(os.listdir(folder)):
             if name.endswith(".uni"):

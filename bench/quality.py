@@ -1,10 +1,10 @@
 #!/usr/bin/env python3
 """How good and how fast `alloc` is: quality.py [NODES] [FOLDER..].
 
-Runs the program on the functions of folders (the examples and those of functions.py where none is named), and prints for each its cost, bound,
-the cost of keeping each name in a frame slot, nodes of the tree and milliseconds, and for each group the geometric means of cost over
-bound and of cost over that of the frame slots, how many meet their bound, and the mean and the greatest time. Run it by hand, on a built
-program; the gate does not run it.
+Runs the program on the functions of folders (the examples, the kernels and those of functions.py where none is named), and prints for
+each its cost, bound, the cost of keeping each name in a frame slot, nodes of the tree and milliseconds, and for each group the geometric
+means of cost over bound and of cost over that of the frame slots, how many meet their bound, and the mean and the greatest time. Run it by
+hand, on a built program; the gate does not run it.
 """
 import os
 import re
