@@ -1,10 +1,13 @@
 -- Blocks worked out by hand: the greatest end at which the operations have no room, and the one at which they have.
-use Rattle.std.proofs.Common.{ℕ, ◌≡◌, Bool, true, false, List, [], ◌∷◌, refl}
+use Rattle.std.proofs.Common.{ℕ, ◌≡◌, ◌++◌, Bool, true, false, List, [], ◌∷◌, refl}
 use Rattle.un_base.specs.declared.ids.VarId.{VarId}
 use Rattle.un_isa.specs.declared.table.Needs.{Needs}
 use Rattle.un_length.specs.declared.block.Task.{Task}
 use Rattle.un_length.specs.declared.block.Precedence.{Precedence}
 use Rattle.un_length.specs.Blocks.{block_holds}
+use Rattle.un_domains.specs.Sets.{Sets}
+use Rattle.un_length.specs.Windows.{earliest, latest}
+use Rattle.un_length.specs.Rooms.{have_room}
 use Rattle.un_length.specs.Lengths.{length_test}
 
 abbrev var : ℕ → VarId
@@ -163,3 +166,48 @@ calls_hold = refl
 
 stores_far : length_test two stores [] (var 2) 4 (cycles ∷ cycles ∷ upto 2 ∷ []) ≡ true
 stores_far = refl
+
+-- Four loads, and four constants that may not issue in cycle 1: two packets have places for eight, but cycle 1 holds two loads at most,
+-- so the end is 4
+
+abbrev nine : List VarId
+nine = var 0 ∷ var 1 ∷ var 2 ∷ var 3 ∷ var 4 ∷ var 5 ∷ var 6 ∷ var 7 ∷ var 8 ∷ []
+
+abbrev load_needs : Needs
+load_needs = record { mem = 1; store = 0; xc = 0; control = 0 }
+
+abbrev late_op : ℕ → Task
+late_op v = record { at = var v; head = 2; tail = 1; needs = constant_needs }
+
+abbrev four_loads : List Task
+four_loads = op 0 load_needs ∷ op 1 load_needs ∷ op 2 load_needs ∷ op 3 load_needs ∷ []
+
+abbrev mixed : List Task
+mixed = four_loads ++ late_op 4 ∷ late_op 5 ∷ late_op 6 ∷ late_op 7 ∷ []
+
+abbrev all_before : ℕ → Sets
+all_before end = cycles ∷ cycles ∷ cycles ∷ cycles ∷ cycles ∷ cycles ∷ cycles ∷ cycles ∷ upto end ∷ []
+
+mixed_too_many : length_test nine mixed [] (var 8) 20 (all_before 3) ≡ false
+mixed_too_many = refl
+
+-- the counts of each resource alone have room there
+mixed_room_by_each : have_room mixed 20 (earliest mixed [] (all_before 3)) (latest mixed [] (var 8) (all_before 3)) ≡ true
+mixed_room_by_each = refl
+
+mixed_fits : length_test nine mixed [] (var 8) 20 (all_before 4) ≡ true
+mixed_fits = refl
+
+mixed_holds : block_holds mixed [] (var 8) (1 ∷ 1 ∷ 2 ∷ 2 ∷ 2 ∷ 2 ∷ 3 ∷ 3 ∷ 4 ∷ []) ≡ true
+mixed_holds = refl
+
+-- where two of the constants may issue in cycle 1 all have room in two packets, and the end is 3
+
+abbrev spread : List Task
+spread = four_loads ++ op 4 constant_needs ∷ op 5 constant_needs ∷ late_op 6 ∷ late_op 7 ∷ []
+
+spread_fits : length_test nine spread [] (var 8) 20 (all_before 3) ≡ true
+spread_fits = refl
+
+spread_holds : block_holds spread [] (var 8) (1 ∷ 1 ∷ 2 ∷ 2 ∷ 1 ∷ 1 ∷ 2 ∷ 2 ∷ 3 ∷ []) ≡ true
+spread_holds = refl

@@ -204,13 +204,19 @@ module _ (r : Resource) (ops : List Task) (early late : ℕ → ℕ) where
         (length ops)
 
     -- the counts from a cycle on are the crowd
-    crowd_sum : (high m low : ℕ) → low + m ≡ high + 1
+    pub crowd_sum : (high m low : ℕ) → low + m ≡ high + 1
         → sum_from (λ k. count_below (starts r ops early late (high + 1) k) (length ops)) low m ≡ crowd r ops early late low high
     crowd_sum high zero low e = sym (crowd_none low high (omega (arith, e)))
     crowd_sum high (suc m) low e = (
         let rest = crowd_sum high m (suc low) (omega (arith, e)) in
         let step = crowd_step low high in
         omega (arith, rest, step))
+
+    -- what lies before a cycle's end has ended by then
+    pub crowd_ended : (high : ℕ) → crowd r ops early late 0 high ≤ count_below (ended r ops late (high + 1)) (length ops)
+    crowd_ended high = count_less (lies_in r ops early late 0 high) (ended r ops late (high + 1)) (length ops) (λ i lt e. (
+        let b = bounds 0 high i e in
+        both (takes r ops i) (nat_lt (late i) (high + 1)) b.0 (sym (same_bound (late i) high) ∙ le_true (late i) high b.2)))
 
     module _ (high : ℕ) (counts : List ℕ) (are : AreCounts r ops early late (high + 1) counts) where
       sums : (low : ℕ) → low < high + 1 → sum_from (slice_index counts) low (high + 1 - low) ≡ crowd r ops early late low high
@@ -224,9 +230,7 @@ module _ (r : Resource) (ops : List Task) (early late : ℕ → ℕ) where
           let none : high + 1 - 0 ≡ high + 1 = omega arith in
           let same = ap (sum_from (slice_index counts) 0) none in
           let is = sums 0 (omega arith) in
-          let le = count_less (lies_in r ops early late 0 high) (ended r ops late (high + 1)) (length ops) (λ i lt e. (
-          let b = bounds 0 high i e in
-          both (takes r ops i) (nat_lt (late i) (high + 1)) b.0 (sym (same_bound (late i) high) ∙ le_true (late i) high b.2))) in
+          let le = crowd_ended high in
           omega (arith, same, is, le)
 
       pub fits_counted : all_below (λ low. nat_le (sum_from (slice_index counts) low (high + 1 - low)) (places_of r * (high + 1 - low)))
@@ -236,29 +240,47 @@ module _ (r : Resource) (ops : List Task) (early late : ℕ → ℕ) where
           (crowd_fits r ops early late high) (high + 1)
           (λ low lt. ap (λ (m : ℕ). nat_le m (places_of r * (high + 1 - low))) (sums low lt))
 
-    -- where none ends at a cycle, it is so if it was before
+    -- Where none ends at a cycle
+
+    module _ (high : ℕ) (off : (i : ℕ) → i < length ops → ends_at r ops late high i ≡ false) where
+      not_last : (i : ℕ) → i < length ops → takes r ops i ≡ true → late i ≡ high → ⊥
+      not_last i lt t e =
+          let here : nat_eq (late i) high ≡ true = grind (arith, nat_tests, e) in
+          let on = both (takes r ops i) (nat_eq (late i) high) t here in
+          let bad : true ≡ false = sym on ∙ off i lt in cc bad
+
+      -- what lies in an interval that ends there lies in the one that ends before it
+      pub crowd_quiet : (low : ℕ) → low < high → crowd r ops early late low high ≤ crowd r ops early late low (high - 1)
+      crowd_quiet low less = count_less (lies_in r ops early late low high) (lies_in r ops early late low (high - 1)) (length ops)
+          (λ i in_ops e. (
+          let b = bounds low high i e in
+          let from = b.1 in
+          let to = b.2 in
+          let ne = not_last i in_ops b.0 in
+          let sooner : late i ≤ high - 1 = omega (arith, to, ne, less) in
+          both (takes r ops i) (nat_le low (early i) && nat_le (late i) (high - 1)) b.0
+          (both (nat_le low (early i)) (nat_le (late i) (high - 1)) (le_true low (early i) from) (le_true (late i) (high - 1) sooner))))
+
+      -- and nothing lies in the cycle alone
+      pub crowd_lone : (low : ℕ) → high ≤ low → crowd r ops early late low high ≡ 0
+      crowd_lone low more = count_none (lies_in r ops early late low high) (length ops) (λ i in_ops. not_lies low high i (λ e. (
+          let b = bounds low high i e in
+          let from = b.1 in
+          let to = b.2 in
+          let le = ordered i in_ops in
+          let at : late i ≡ high = omega (arith, from, to, le, more) in
+          not_last i in_ops b.0 at)))
+
+    -- it is so if it was before
     pub quiet_end : (high : ℕ) → all_below (end_fits r ops early late) high ≡ true
         → ((i : ℕ) → i < length ops → ends_at r ops late high i ≡ false) → end_fits r ops early late high ≡ true
     quiet_end high before off = each_below (crowd_fits r ops early late high) (high + 1)
         (λ low lt. le_true (crowd r ops early late low high) (places_of r * (high + 1 - low)) (room low lt (cases_lt low high)))
       where
-        not_last : (i : ℕ) → i < length ops → takes r ops i ≡ true → late i ≡ high → ⊥
-        not_last i lt t e =
-            let here : nat_eq (late i) high ≡ true = grind (arith, nat_tests, e) in
-            let on = both (takes r ops i) (nat_eq (late i) high) t here in
-            let bad : true ≡ false = sym on ∙ off i lt in cc bad
-
         room : (low : ℕ) → low < high + 1 → (low < high) ⊎ (high ≤ low)
             → crowd r ops early late low high ≤ places_of r * (high + 1 - low)
         room low lt (inl less) = (
-            let fewer = count_less (lies_in r ops early late low high) (lies_in r ops early late low (high - 1)) (length ops) (λ i in_ops e. (
-            let b = bounds low high i e in
-            let from = b.1 in
-            let to = b.2 in
-            let ne = not_last i in_ops b.0 in
-            let sooner : late i ≤ high - 1 = omega (arith, to, ne, less) in
-            both (takes r ops i) (nat_le low (early i) && nat_le (late i) (high - 1)) b.0
-            (both (nat_le low (early i)) (nat_le (late i) (high - 1)) (le_true low (early i) from) (le_true (late i) (high - 1) sooner)))) in
+            let fewer = crowd_quiet high off low less in
             let fit = true_le (crowd r ops early late low (high - 1)) (places_of r * (high - 1 + 1 - low))
             (below_each (crowd_fits r ops early late (high - 1)) (high - 1 + 1)
             (below_each (end_fits r ops early late) high before (high - 1) (omega (arith, less))) low (omega (arith, less))) in
@@ -267,15 +289,7 @@ module _ (r : Resource) (ops : List Task) (early late : ℕ → ℕ) where
             let m : high + 1 - low ≡ suc (high - low) = omega (arith, less) in
             let more = ap (λ (k : ℕ). places_of r * k) m ∙ places_more r (high - low) in
             omega (arith, fewer, fit, same, more))
-        room low lt (inr more) = (
-            let none = count_none (lies_in r ops early late low high) (length ops) (λ i in_ops. not_lies low high i (λ e. (
-            let b = bounds low high i e in
-            let from = b.1 in
-            let to = b.2 in
-            let le = ordered i in_ops in
-            let at : late i ≡ high = omega (arith, from, to, le, more) in
-            not_last i in_ops b.0 at))) in
-            omega (arith, none))
+        room low lt (inr more) = (let none = crowd_lone high off low more in omega (arith, none))
 
     -- where all end before a cycle, later ones say no more
     rest_fit : (end horizon : ℕ) → ((i : ℕ) → i < length ops → late i < end) → all_below (end_fits r ops early late) end ≡ true

@@ -23,8 +23,8 @@ use Rattle.un_length.specs.Blocks.{cycle_of, block_holds, FitsBlock, BlockVars}
 use Rattle.un_length.specs.BlockLaws.{place_alike, place_less, each_two, holds_fits}
 use Rattle.un_length.specs.Windows.{raised, lowered, first_cycle, last_cycle, earliest, latest}
 use Rattle.un_length.specs.WindowLaws.{raised_less, lowered_less, raised_keeps, lowered_keeps, lowered_falls}
-use Rattle.un_length.specs.Rooms.{have_room}
-use Rattle.un_length.specs.RoomLaws.{room_less, keeps_room}
+use Rattle.un_length.specs.Mixed.{fit_mixed}
+use Rattle.un_length.specs.MixedLaws.{fit_less, keeps_fit}
 use Rattle.un_length.specs.Lengths.{is_near, length_test, length_cut, LengthStrong}
 
 -- no latest cycle is after the greatest end
@@ -79,10 +79,10 @@ module _ (vs : List VarId) (ops : List Task) (arcs : List Precedence) (end : Var
         (grind (arith, nat_tests, less)) two.1
 
     test_less : length_test vs ops arcs end horizon t ≡ true → length_test vs ops arcs end horizon s ≡ true
-    test_less h = not_or (is_near vs ops end horizon s) (have_room ops horizon (earliest ops arcs s) (latest ops arcs end s))
-        (λ near. room_less ops horizon (earliest ops arcs s) (latest ops arcs end s) (earliest ops arcs t) (latest ops arcs end t)
+    test_less h = not_or (is_near vs ops end horizon s) (fit_mixed ops horizon (earliest ops arcs s) (latest ops arcs end s))
+        (λ near. fit_less ops horizon (earliest ops arcs s) (latest ops arcs end s) (earliest ops arcs t) (latest ops arcs end t)
         (λ i lt. later i) (λ i lt. sooner i)
-        (or_not (is_near vs ops end horizon t) (have_room ops horizon (earliest ops arcs t) (latest ops arcs end t)) h (near_less near)))
+        (or_not (is_near vs ops end horizon t) (fit_mixed ops horizon (earliest ops arcs t) (latest ops arcs end t)) h (near_less near)))
 
   -- Stores that agree
 
@@ -104,10 +104,10 @@ module _ (vs : List VarId) (ops : List Task) (arcs : List Precedence) (end : Var
     test_alike : length_test vs ops arcs end horizon s ≡ length_test vs ops arcs end horizon t
     test_alike =
         ap (λ (n : ℕ). not (nat_lt (n + length ops) horizon && nat_le (length ops) (length vs))
-        || have_room ops horizon (earliest ops arcs s) (latest ops arcs end s)) end_alike
-        ∙ (ap (λ (ns : List ℕ). not (is_near vs ops end horizon t) || have_room ops horizon (λ i. raised arcs (λ k. get_or ns k 0) i)
+        || fit_mixed ops horizon (earliest ops arcs s) (latest ops arcs end s)) end_alike
+        ∙ (ap (λ (ns : List ℕ). not (is_near vs ops end horizon t) || fit_mixed ops horizon (λ i. raised arcs (λ k. get_or ns k 0) i)
         (latest ops arcs end s)) firsts_alike
-        ∙ ap (λ (ns : List ℕ). not (is_near vs ops end horizon t) || have_room ops horizon (earliest ops arcs t)
+        ∙ ap (λ (ns : List ℕ). not (is_near vs ops end horizon t) || fit_mixed ops horizon (earliest ops arcs t)
         (λ i. lowered arcs (λ k. get_or ns k 0) i)) lasts_alike)
 
   length_lawful_test : LawfulTest vs (λ s c. length_test vs ops arcs end horizon s)
@@ -136,8 +136,8 @@ module _ (vs : List VarId) (ops : List Task) (arcs : List Precedence) (end : Var
         omega (arith, own, ends, before))
 
     pub test_kept : length_test vs ops arcs end horizon s ≡ true
-    test_kept = not_or (is_near vs ops end horizon s) (have_room ops horizon (earliest ops arcs s) (latest ops arcs end s))
-        (λ near. keeps_room ops horizon x (earliest ops arcs s) (latest ops arcs end s)
+    test_kept = not_or (is_near vs ops end horizon s) (fit_mixed ops horizon (earliest ops arcs s) (latest ops arcs end s))
+        (λ near. keeps_fit ops horizon x (earliest ops arcs s) (latest ops arcs end s)
         (raised_keeps arcs (at_place (first_cycle s) ops) (at_place (cycle_of x) ops) (recursion_from_All _ _ fits.ordered)
         (place_less (first_cycle s) (cycle_of x) ops
         (map_each (λ o. (among vs o.at ≡ true) × (o.head ≤ cycle_of x o)) (λ o. first_cycle s o ≤ cycle_of x o) from_first ops

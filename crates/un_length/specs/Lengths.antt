@@ -7,7 +7,7 @@ use Rattle.un_prop.specs.Failing.{first_cut}
 use Rattle.un_length.specs.declared.block.Task.{Task}
 use Rattle.un_length.specs.declared.block.Precedence.{Precedence}
 use Rattle.un_length.specs.Windows.{earliest, latest}
-use Rattle.un_length.specs.Rooms.{have_room}
+use Rattle.un_length.specs.Mixed.{fit_mixed}
 
 -- the greatest end and the number of operations are together less than the horizon, and there is a variable for each
 abbrev pub is_near : List VarId → List Task → VarId → ℕ → Sets → Bool
@@ -16,7 +16,7 @@ is_near vs ops end horizon s = nat_lt (greatest (set_at s end.0) + length ops) h
 -- where it is so, the operations have room between their earliest and their latest cycles
 abbrev pub length_test : List VarId → List Task → List Precedence → VarId → ℕ → Sets → Bool
 length_test vs ops arcs end horizon s =
-    not (is_near vs ops end horizon s) || have_room ops horizon (earliest ops arcs s) (latest ops arcs end s)
+    not (is_near vs ops end horizon s) || fit_mixed ops horizon (earliest ops arcs s) (latest ops arcs end s)
 
 -- it fails where they have not
 abbrev pub length_cut : List VarId → List Task → List Precedence → VarId → ℕ → Sets → Option Sets

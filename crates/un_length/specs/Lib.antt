@@ -10,5 +10,7 @@ pub mod Rooms
 pub mod RoomLaws
 pub mod Counting
 pub mod CountingLaws
+pub mod Mixed
+pub mod MixedLaws
 pub mod Lengths
 pub mod LengthLaws

@@ -45,7 +45,7 @@ module _ (ops : List Task) (horizon : ℕ) (early late early' late' : ℕ → �
       (both (nat_le low (early' i)) (nat_le (late' i) high) (le_true low (early' i) (omega (arith, from, up)))
       (le_true (late' i) high (omega (arith, to, down))))
 
-  crowd_less : (r : Resource) (low high : ℕ) → crowd r ops early late low high ≤ crowd r ops early' late' low high
+  pub crowd_less : (r : Resource) (low high : ℕ) → crowd r ops early late low high ≤ crowd r ops early' late' low high
   crowd_less r low high = count_less (lies_in r ops early late low high) (lies_in r ops early' late' low high) (length ops)
       (lies_less r low high)
 
@@ -89,7 +89,7 @@ room_on ops horizon early late on = ap (λ (b : Bool). b && all_fit ops horizon 
 
 -- Cycles that keep all have room
 
-own_share : (r : Resource) (x : List ℕ) (ops : List Task) (i : ℕ)
+pub own_share : (r : Resource) (x : List ℕ) (ops : List Task) (i : ℕ)
     → at_place (taken_by r (at_place (cycle_of x) ops i) x) ops i ≡ at_place (λ t. share_of r t.needs) ops i
 own_share r x [] i = refl
 own_share r x (t ∷ ts) zero =

@@ -68,7 +68,7 @@ sum_places r f (suc m) h = (
     let more = places_more r m in
     omega (arith, rest, here, more))
 
-sum_head : (g : ℕ → ℕ) (n : ℕ) → sum_below g (suc n) ≡ g 0 + sum_below (λ i. g (suc i)) n
+pub sum_head : (g : ℕ → ℕ) (n : ℕ) → sum_below g (suc n) ≡ g 0 + sum_below (λ i. g (suc i)) n
 sum_head g zero = omega arith
 sum_head g (suc n) = (let rest = sum_head g n in omega (arith, rest))
 

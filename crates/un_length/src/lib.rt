@@ -5,5 +5,6 @@ pub mod block;
 mod crowd;
 mod holds;
 pub mod length;
+mod mixed;
 mod room;
 mod window;

@@ -8,11 +8,12 @@ ghost use Rattle.un_prop.specs.Pruning.{HasRoom};
 ghost use Rattle.un_prop.specs.declared.propagator.Pruned.TheVariants.{Same};
 ghost use Rattle.un_length.specs.Blocks.{BlockVars};
 ghost use Rattle.un_length.specs.Windows.{earliest, latest};
-ghost use Rattle.un_length.specs.Rooms.{have_room};
+ghost use Rattle.un_length.specs.Mixed.{fit_mixed};
 ghost use Rattle.un_length.specs.Lengths.{is_near, length_test, length_cut};
 
 use crate::block::Block;
 use crate::crowd::{all_fit, in_order};
+use crate::mixed::mixed_room;
 use crate::window::{find_earliest, find_latest};
 use un_domains::window::Window;
 use un_prop::propagator::{Pruned, Scratch};
@@ -41,7 +42,7 @@ fn have_room(block: &Block, w: &Window<'_>, cycles: &mut [u32], late: &mut [u32]
     requires near { greatest (set_at w.now.store.now.sets block.now.end.0) + length block.now.ops < block.now.horizon }
     requires cycles { block.now.horizon ≤ length cycles.old }
     requires late { length block.now.ops ≤ length late.old }
-    ensures { result ≡ have_room block.now.ops block.now.horizon (earliest block.now.ops block.now.arcs w.now.store.now.sets)
+    ensures { result ≡ fit_mixed block.now.ops block.now.horizon (earliest block.now.ops block.now.arcs w.now.store.now.sets)
         (latest block.now.ops block.now.arcs block.now.end w.now.store.now.sets) }
 {
     let greatest = w.max(block.end);
@@ -53,7 +54,10 @@ fn have_room(block: &Block, w: &Window<'_>, cycles: &mut [u32], late: &mut [u32]
     if !in_order(ops, early, late) {
         return false;
     }
-    all_fit(ops, early, late, end, counts)
+    if !all_fit(ops, early, late, end, counts) {
+        return false;
+    }
+    mixed_room(ops, early, late, end, counts)
 }
 
 /// Whether they have, where the end is near.

@@ -195,7 +195,7 @@ fn add_ending(
 }
 
 /// Whether from no cycle to `high` there are more than the packets have. In all there are at most `total`.
-fn fits_down(cycles: &[u32], high: u32, places: u32, total: u32) -> bool
+fn fits_down(cycles: &[u32], high: u32, places: u32, total: u64) -> bool
     requires room { high < length cycles.now }
     requires whole { sum_from (slice_index cycles.now) 0 (high + 1) ≤ total }
     ensures { result ≡ all_below (λ low. nat_le (sum_from (slice_index cycles.now) low (high + 1 - low))
@@ -212,7 +212,7 @@ fn fits_down(cycles: &[u32], high: u32, places: u32, total: u32) -> bool
             return false;
         }
         // Longer intervals have room for all.
-        if room >= u64::from(total) {
+        if room >= total {
             return true;
         }
     }
@@ -221,7 +221,7 @@ fn fits_down(cycles: &[u32], high: u32, places: u32, total: u32) -> bool
 
 /// Whether no interval of cycles that ends with `high` has more of the counted operations than its packets have of a resource.
 /// `many` of them end there: where that is 0, a shorter interval has told it. In all there are at most `total`.
-pub fn has_room(cycles: &[u32], r: Resource, high: u32, many: u32, total: u32) -> bool
+pub fn has_room(cycles: &[u32], r: Resource, high: u32, many: u32, total: u64) -> bool
     requires room { high < length cycles.now }
     requires whole { sum_from (slice_index cycles.now) 0 (high + 1) ≤ total }
     ensures { result ≡ (nat_eq many 0 || all_below (λ low. nat_le (sum_from (slice_index cycles.now) low (high + 1 - low))
@@ -253,7 +253,7 @@ fn ends_fit(
     for high in 0..horizon {
         let many = add_ending(items, w, r, high, cycles, before);
         total += many;
-        if !has_room(cycles, r, high, many, total) {
+        if !has_room(cycles, r, high, many, u64::from(total)) {
             return false;
         }
     }

@@ -19,8 +19,8 @@ returns-then-crowd-room c =
     (omega (arith, inv.within, c.loop-c-test.true))
     (more_false (sum_from f (at - 1) (high + 1 - (at - 1))) (c.args.places * (high + 1 - (at - 1))) more)
 
-pub returns-then-room-from : goal.returns-then-room-from
-returns-then-room-from c =
+pub returns-then-room-total : goal.returns-then-room-total
+returns-then-room-total c =
     let f = slice_index c.args.cycles.now in
     let high = c.args.high in
     let at = c.loop-c.c in
@@ -30,7 +30,7 @@ returns-then-room-from c =
     sym (each_below (λ low. nat_le (sum_from f low (high + 1 - low)) (c.args.places * (high + 1 - low))) (high + 1)
     (λ low lt. le_true (sum_from f low (high + 1 - low)) (c.args.places * (high + 1 - low)) (elim (cases_lt low at) [
       | inl less ↦ room_for_all f c.args.places (high + 1) low (at - 1) c.args.total c.requires.whole
-          (omega (arith, room, inv.room, c.from-room.ensures, c.from.ensures, c.if-room-from.true))
+          (omega (arith, room, inv.room, c.from-room.ensures, c.if-room-total.true))
           (omega (arith, less)) (omega (arith, inv.within))
       | inr more ↦ inv.passed low more lt
     ])))
