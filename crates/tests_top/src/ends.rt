@@ -41,6 +41,67 @@ block e freq 1
   %d = add %c, %a
   ret %d
 ?blocks: 4\
+|# Six loads, nineteen sums of one of them each, and a return are twenty-six instructions. In cycles 1 and 2 nothing but two loads each can
+# issue, so four of the twenty-eight places of seven packets are lost, and it takes eight.\
+|func mixed %p
+block e freq 1
+  %a = load %p, #0
+  %b = load %p, #4
+  %c = load %p, #8
+  %d = load %p, #12
+  %e = load %p, #16
+  %f = load %p, #20
+  %x = addi %a, #1
+  %x = addi %b, #2
+  %x = addi %c, #3
+  %x = addi %d, #4
+  %x = addi %e, #5
+  %x = addi %f, #6
+  %x = addi %a, #7
+  %x = addi %b, #8
+  %x = addi %c, #9
+  %x = addi %d, #10
+  %x = addi %e, #11
+  %x = addi %f, #12
+  %x = addi %a, #13
+  %x = addi %b, #14
+  %x = addi %c, #15
+  %x = addi %d, #16
+  %x = addi %e, #17
+  %x = addi %f, #18
+  %x = addi %a, #19
+  ret
+?blocks: 9\
+|# Where four of the sums are constants they stand beside the loads, and seven packets do.\
+|func spread %p
+block e freq 1
+  %a = load %p, #0
+  %b = load %p, #4
+  %c = load %p, #8
+  %d = load %p, #12
+  %e = load %p, #16
+  %f = load %p, #20
+  %y = imm #0
+  %y = imm #1
+  %y = imm #2
+  %y = imm #3
+  %x = addi %e, #5
+  %x = addi %f, #6
+  %x = addi %a, #7
+  %x = addi %b, #8
+  %x = addi %c, #9
+  %x = addi %d, #10
+  %x = addi %e, #11
+  %x = addi %f, #12
+  %x = addi %a, #13
+  %x = addi %b, #14
+  %x = addi %c, #15
+  %x = addi %d, #16
+  %x = addi %e, #17
+  %x = addi %f, #18
+  %x = addi %a, #19
+  ret
+?blocks: 8\
 |# Twelve saved values and the link cross the call, which keeps twelve registers. The frame is entered in cycle 1, so one of them is
 # spilled in cycle 2 and the call issues there; it is reloaded in cycle 3, and is ready at the end, cycle 5.\
 |func across
