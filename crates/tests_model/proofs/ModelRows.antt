@@ -10,12 +10,13 @@ use Rattle.un_isa.specs.declared.reg.Reg.{Reg}
 use Rattle.un_isa.specs.declared.reg.Space.TheVariants.{R, P, M}
 use Rattle.un_isa.specs.Hexagon.{HEXAGON}
 use Rattle.un_isa.specs.Registers.{callee_saved}
+use Rattle.un_isa.specs.Does.{is_transfer}
 use Rattle.un_ir.specs.declared.function.SrcOp.{SrcOp}
 use Rattle.un_ir.specs.declared.function.Term.TheVariants.{Fall, Jump as JumpTo, Branch, Ret}
 use Rattle.un_ir.specs.declared.extended.ExtKind.TheVariants.{In, Body}
 use Rattle.un_isa.specs.declared.packet_counts.Resource.TheVariants.{Instructions, Memory, Stores, MultiplyOrControl, Control}
 use Rattle.un_model.specs.Emission.{frame_bytes, slot_offset}
-use Rattle.un_model.specs.Instructions.{copy_of, frame_instr, transfer_of, latency_by, is_transfer, space_read, space_given}
+use Rattle.un_model.specs.Instructions.{copy_of, frame_instr, transfer_of, latency_by, space_read, space_given}
 use Rattle.un_model.specs.Registers.{is_assignable, predicate_registers, slots_of, with_zero, result_home}
 use Rattle.un_model.specs.Solutions.{latency_gap, memory_distance, frame_distance, share_of, broken_clauses}
 use Rattle.un_isa.specs.PacketCounts.{places_of}

@@ -51,8 +51,7 @@ end_sum : (t : Table) (term : Term) (start bodies fin : ℕ) → fin ≡ 1 + sta
     → block_end t term fin - 1 ≡ start + bodies + end_packets t term
 end_sum t Fall start bodies fin is = omega arith
 end_sum t (Jump to) start bodies fin is = omega arith
-end_sum t (Branch pred true to) start bodies fin is = omega arith
-end_sum t (Branch pred false to) start bodies fin is = omega arith
+end_sum t (Branch pred sense to) start bodies fin is = omega arith
 end_sum t (Ret None) start bodies fin is = omega arith
 end_sum t (Ret (Some name)) start bodies fin is = omega arith
 

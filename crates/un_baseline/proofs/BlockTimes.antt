@@ -9,6 +9,7 @@ use Rattle.un_isa.specs.declared.op.Op.TheVariants.{Mov, Spill, Reload, P2R, R2P
 use Rattle.un_isa.specs.declared.table.Table.{Table}
 use Rattle.un_isa.specs.Fit.{IsFit}
 use Rattle.un_isa.specs.Tables.{latency_of}
+use Rattle.un_isa.specs.Does.{is_transfer}
 use Rattle.un_ir.specs.declared.function.Term.{Term}
 use Rattle.un_ir.specs.declared.function.Term.TheVariants.{Fall, Jump, Branch, Ret}
 use Rattle.un_base.specs.declared.ids.NameId.{NameId}
@@ -20,7 +21,7 @@ use Rattle.un_ir.specs.declared.extended.ExtBlock.{ExtBlock}
 use Rattle.un_ir.specs.declared.extended.Ext.{Ext}
 use Rattle.un_model.specs.declared.schedule.Issue.{Issue}
 use Rattle.un_model.specs.Congruences.{term_of}
-use Rattle.un_model.specs.Instructions.{instruction_of, is_transfer}
+use Rattle.un_model.specs.Instructions.{instruction_of}
 use Rattle.un_baseline.specs.declared.plan.Purpose.{Purpose}
 use Rattle.un_baseline.specs.declared.plan.Purpose.TheVariants.{Operands, Link, Returned, Unread}
 use Rattle.un_baseline.specs.declared.plan.Move.{Move}

@@ -12,7 +12,7 @@ use Rattle.un_base.specs.declared.ids.BlockId.{BlockId}
 use Rattle.un_base.specs.declared.ids.NameId.{NameId}
 use Rattle.un_base.specs.declared.ids.TempId.{TempId}
 use Rattle.un_isa.specs.declared.op.Op.{Op}
-use Rattle.un_isa.specs.declared.op.Op.TheVariants.{Call, Jump as JumpOp, JumpIf, JumpIfNot}
+use Rattle.un_isa.specs.declared.op.Op.TheVariants.{Call, Jump as JumpOp}
 use Rattle.un_isa.specs.declared.reg.TheConstants.{LINK, FIRST_SLOT}
 use Rattle.un_isa.specs.Fit.{IsFit}
 use Rattle.un_isa.specs.Registers.{callee_saved, saved_registers}
@@ -420,5 +420,5 @@ module _ (c : ℕ) (H : Seen → List Read → Type 0) (b end : ℕ) (e : Ext) (
         → IsLive f.blocks pred b (length source.ops)
         → block.live_out ≡ ns → AreLiveHere ns → HandsOut ns → purpose_of_out s.term ≡ Unread → OutAsks (handed_rooms ns)
         → G n p seen (All' (end_at (Branch pred sense to) (name_operand current None pred ∷ []) ∷ out_of ns ∷ []) g)
-    branch_good true n pred to ns = branch_by true n pred to JumpIf ns refl (λ z. cc z) refl
-    branch_good false n pred to ns = branch_by false n pred to JumpIfNot ns refl (λ z. cc z) refl
+    branch_good true n pred to ns = branch_by true n pred to _ ns refl (λ z. cc z) refl
+    branch_good false n pred to ns = branch_by false n pred to _ ns refl (λ z. cc z) refl

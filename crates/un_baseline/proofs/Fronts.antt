@@ -5,7 +5,7 @@ use Rattle.std.proofs.lemmas.List.Elements.{All-nil, All-cons}
 use Rattle.un_base.specs.declared.ids.NameId.{NameId}
 use Rattle.un_base.specs.declared.ids.TempId.{TempId}
 use Rattle.un_isa.specs.declared.op.Op.{Op}
-use Rattle.un_isa.specs.declared.op.Op.TheVariants.{Mov, Spill, Reload, P2R, R2P, Jump as JumpOp, JumpIf, JumpIfNot, Enter as EnterOp}
+use Rattle.un_isa.specs.declared.op.Op.TheVariants.{Mov, Spill, Reload, P2R, R2P, Jump as JumpOp, Enter as EnterOp}
 use Rattle.un_isa.specs.declared.table.Table.{Table}
 use Rattle.un_isa.specs.Tables.{latency_of}
 use Rattle.un_ir.specs.declared.function.Kind.{Kind}
@@ -161,6 +161,10 @@ module _ (e : Ext) (block : ExtBlock) (s : Setting) (b end : ℕ) where
         let low : next ≡ i.cycle + latency_of e.table o = omega arith in
         issues o io ne (omega arith) (subst (λ (x : ℕ). Rise e.table first high x is) low h)
 
+    issues_next : (i : Issue) (is : List Issue) (o : Op) (now : ℕ) → i.instr ≡ Some o → o ≢ EnterOp → i.cycle ≡ now
+        → Rise e.table first high (now + latency_of e.table o) is → Rise e.table first high now (i ∷ is)
+    issues_next i is o now io ne at h = issues_then i is o now (now + latency_of e.table o) io ne at refl h
+
     copy_then : (n : ℕ) (op : ExtOp) (node : NodeCopy) (st : Step) (m : Move) (now next : ℕ) (is : List Issue) → op.kind ≡ Copy node
         → st.instr ≡ m.instr → st.cycle ≡ m.cycle → Moves e.table now next m
         → Rise e.table first high next is → Rise e.table first high now (planned_issue b end n op st ∷ is)
@@ -187,11 +191,11 @@ module _ (e : Ext) (block : ExtBlock) (s : Setting) (b end : ℕ) where
         issues_then _ is JumpOp p.cycle (p.cycle + latency_of e.table JumpOp) (ap (λ (k : ExtKind). instruction_of k 0) kind)
         (λ q. cc q) (ap (λ (k : ExtKind). planned_cycle end k p.cycle) kind) refl h
     front_step n p purpose op (End (Branch pred true to)) is kind front calm early once h =
-        issues_then _ is JumpIf p.cycle (p.cycle + latency_of e.table JumpIf) (ap (λ (k : ExtKind). instruction_of k 0) kind)
-        (λ q. cc q) (ap (λ (k : ExtKind). planned_cycle end k p.cycle) kind) refl h
+        issues_next _ is _ p.cycle (ap (λ (k : ExtKind). instruction_of k 0) kind) (λ q. cc q)
+        (ap (λ (k : ExtKind). planned_cycle end k p.cycle) kind) h
     front_step n p purpose op (End (Branch pred false to)) is kind front calm early once h =
-        issues_then _ is JumpIfNot p.cycle (p.cycle + latency_of e.table JumpIfNot) (ap (λ (k : ExtKind). instruction_of k 0) kind)
-        (λ q. cc q) (ap (λ (k : ExtKind). planned_cycle end k p.cycle) kind) refl h
+        issues_next _ is _ p.cycle (ap (λ (k : ExtKind). instruction_of k 0) kind) (λ q. cc q)
+        (ap (λ (k : ExtKind). planned_cycle end k p.cycle) kind) h
     front_step n p purpose op (End (Ret value)) is kind front calm early once h = absurd front
     front_step n p purpose op (Copy node) is kind front calm early once h =
         let m = copy_move e block.live_in s p purpose (first_alts op.operands) node in

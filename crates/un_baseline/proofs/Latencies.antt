@@ -12,17 +12,17 @@ use Rattle.un_base.specs.declared.ids.TempId.{TempId}
 use Rattle.un_isa.specs.Facts.{is_source}
 use Rattle.un_isa.specs.Fit.{IsFit}
 use Rattle.un_isa.specs.declared.op.Op.{Op}
-use Rattle.un_isa.specs.declared.op.Op.TheVariants.{Mov, Spill, Reload, P2R, R2P, Jump as JumpOp, JumpIf, JumpIfNot, Jumpr}
+use Rattle.un_isa.specs.declared.op.Op.TheVariants.{Mov, Spill, Reload, P2R, R2P, Jumpr}
 use Rattle.un_isa.specs.declared.op.Op.TheVariants.{Enter as EnterOp, Leave as LeaveOp}
 use Rattle.un_isa.specs.Registers.{callee_saved, saved_registers}
 use Rattle.un_isa.specs.declared.reg.Space.TheVariants.{R, M}
 use Rattle.un_isa.specs.declared.reg.TheConstants.{LINK}
 use Rattle.un_isa.specs.declared.table.Table.{Table}
 use Rattle.un_isa.specs.Tables.{latency_of}
+use Rattle.un_isa.specs.Does.{is_transfer}
 use Rattle.un_ir.specs.declared.function.Kind.{Kind}
 use Rattle.un_ir.specs.declared.function.SrcOp.{SrcOp}
 use Rattle.un_ir.specs.declared.function.Term.{Term}
-use Rattle.un_ir.specs.declared.function.Term.TheVariants.{Fall, Jump, Branch, Ret}
 use Rattle.un_ir.specs.declared.extended.NodeCopy.{NodeCopy}
 use Rattle.un_ir.specs.declared.extended.ExtKind.{ExtKind}
 use Rattle.un_ir.specs.declared.extended.ExtKind.TheVariants.{In, Out, Body, End, Copy, Enter, Leave}
@@ -39,8 +39,9 @@ use Rattle.un_model.specs.declared.schedule.Issue.{Issue}
 use Rattle.un_model.specs.declared.schedule.Read.{Read}
 use Rattle.un_model.specs.declared.schedule.LiveRange.{LiveRange}
 use Rattle.un_model.proofs.Gaps.{gap_latency}
-use Rattle.un_model.specs.Instructions.{copy_of, space_read, space_given, transfer_of, instruction_of, latency_by, is_transfer}
+use Rattle.un_model.specs.Instructions.{copy_of, space_read, space_given, transfer_of, instruction_of, latency_by}
 use Rattle.un_model.specs.Pairs.{pairs_from}
+use Rattle.un_model.proofs.Transfers.{transfer_leaves}
 use Rattle.un_ir.specs.Kinds.{is_delimiter}
 use Rattle.un_model.specs.Schedules.{chosen, last_read}
 use Rattle.un_model.specs.Solutions.{IsLast, IsPlacedAs, IsPlaced, InSpace, ReadsInSpace, IsGivenInSpace, KeepsSpaces, LeavesGap}
@@ -277,11 +278,11 @@ definition b end n op s (copies node is) source active =
     (copy_computes (s.instr == 1) (s.instr == 2) (s.instr == 3) (s.instr == 4) (s.instr == 5) some.0 some.1)
 
 ends_block : (term : Term) (o : Op) → transfer_of term ≡ Some o → (o ≢ EnterOp) × (o ≢ LeaveOp)
-ends_block Fall o h = absurd (cc h)
-ends_block (Jump to) o h = let e : JumpOp ≡ o = cc h in ((λ q. cc q), (λ q. cc q))
-ends_block (Branch pred true to) o h = let e : JumpIf ≡ o = cc h in ((λ q. cc q), (λ q. cc q))
-ends_block (Branch pred false to) o h = let e : JumpIfNot ≡ o = cc h in ((λ q. cc q), (λ q. cc q))
-ends_block (Ret value) o h = let e : Jumpr ≡ o = cc h in ((λ q. cc q), (λ q. cc q))
+ends_block term o h =
+    let t = transfer_leaves term o h in (
+      λ q. let z : is_transfer EnterOp ≡ true = ap is_transfer (sym q) ∙ t in cc z,
+      λ q. let z : is_transfer LeaveOp ≡ true = ap is_transfer (sym q) ∙ t in cc z,
+    )
 
 use_of : (b end n : ℕ) (op : ExtOp) (s : Step) → IsUser op.kind → IsSourceKind op.kind → (planned_issue b end n op s).active ≡ true
     → Use end (planned_issue b end n op s)

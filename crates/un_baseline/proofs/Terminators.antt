@@ -6,9 +6,10 @@ use Rattle.std.specs.Option.{option_to_list}
 use Rattle.std.proofs.lemmas.List.Elements.{All-nil, All-cons, All-head, All-tail}
 use Rattle.un_isa.specs.Facts.{is_source}
 use Rattle.un_isa.specs.declared.op.Op.{Op}
-use Rattle.un_isa.specs.declared.op.Op.TheVariants.{Mov, Spill, Reload, P2R, R2P, Jump as JumpOp, JumpIf, JumpIfNot, Jumpr}
 use Rattle.un_isa.specs.declared.op.Op.TheVariants.{Enter as EnterOp, Leave as LeaveOp}
 use Rattle.un_isa.specs.Fit.{IsFit}
+use Rattle.un_isa.specs.Does.{is_transfer}
+use Rattle.un_isa.proofs.DoesLaws.{source_stays as source_goes_on, copy_stays}
 use Rattle.un_ir.specs.declared.function.Term.TheVariants.{Fall, Jump, Branch, Ret}
 use Rattle.un_ir.specs.declared.extended.NodeCopy.TheVariants.{D, D2, U, U2}
 use Rattle.un_ir.specs.declared.extended.ExtKind.{ExtKind}
@@ -19,7 +20,8 @@ use Rattle.un_ir.specs.declared.extended.Ext.{Ext}
 use Rattle.un_ir.specs.Extended.{is_copy, is_end, is_inner, Parts, IsMadeOf, IsGoodKind}
 use Rattle.un_ir.specs.Linear.{is_in, is_out}
 use Rattle.un_model.specs.declared.schedule.Issue.{Issue}
-use Rattle.un_model.specs.Instructions.{instruction_of, is_transfer}
+use Rattle.un_model.specs.Instructions.{instruction_of}
+use Rattle.un_model.proofs.Transfers.{copy_copies, transfer_latency}
 use Rattle.un_baseline.specs.declared.plan.Purpose.{Purpose}
 use Rattle.un_baseline.specs.declared.plan.Purpose.TheVariants.{Unread}
 use Rattle.un_baseline.specs.declared.plan.Definer.{Definer}
@@ -172,13 +174,6 @@ none_ends (x ∷ xs) y ys other h = (by x.kind h.0, none_ends xs y ys other h.1)
 
 -- ---- transfers
 
-source_still : (o : Op) → is_source o ≡ true → is_transfer o ≡ false
-source_still JumpOp h = absurd (cc h)
-source_still JumpIf h = absurd (cc h)
-source_still JumpIfNot h = absurd (cc h)
-source_still Jumpr h = absurd (cc h)
-source_still _ h = refl
-
 pub source_stays : (o : Op) → is_source o ≡ true → o ≢ LeaveOp
 source_stays o h e = let f : is_source LeaveOp ≡ true = ap is_source (sym e) ∙ h in cc f
 
@@ -187,15 +182,6 @@ source_never_enters o h e = let f : is_source EnterOp ≡ true = ap is_source (s
 
 not_both : (o q : Op) → o ≡ q → is_transfer o ≡ false → is_transfer q ≡ true → ⊥
 not_both o q e f h = let z : false ≡ true = sym f ∙ ap is_transfer e ∙ h in cc z
-
-copy_still : (a b c d f : Bool) (o : Op) → (if a then Some Mov else (if b then Some Spill else (if c then Some Reload else
-    (if d then Some P2R else (if f then Some R2P else None))))) ≡ Some o → is_transfer o ≡ true → ⊥
-copy_still true b c d f o h t = not_both Mov o (let e : Mov ≡ o = cc h in e) refl t
-copy_still false true c d f o h t = not_both Spill o (let e : Spill ≡ o = cc h in e) refl t
-copy_still false false true d f o h t = not_both Reload o (let e : Reload ≡ o = cc h in e) refl t
-copy_still false false false true f o h t = not_both P2R o (let e : P2R ≡ o = cc h in e) refl t
-copy_still false false false false true o h t = not_both R2P o (let e : R2P ≡ o = cc h in e) refl t
-copy_still false false false false false o h t = absurd (cc h)
 
 frame_still : (op o : Op) (idle : Bool) → is_transfer op ≡ false → (if idle then None else Some op) ≡ Some o → is_transfer o ≡ true → ⊥
 frame_still op o true f h t = absurd (cc h)
@@ -206,9 +192,9 @@ pub calm_instr : (kind : ExtKind) (n : ℕ) → IsSourceKind kind → is_end kin
     → is_transfer o ≡ true → ⊥
 calm_instr In n source calm o h t = absurd (cc h)
 calm_instr Out n source calm o h t = absurd (cc h)
-calm_instr (Body src) n source calm o h t = not_both src.op o (let e : src.op ≡ o = cc h in e) (source_still src.op source) t
+calm_instr (Body src) n source calm o h t = not_both src.op o (let e : src.op ≡ o = cc h in e) (source_goes_on src.op source) t
 calm_instr (End term) n source calm o h t = absurd (cc calm)
-calm_instr (Copy node) n source calm o h t = copy_still (n == 1) (n == 2) (n == 3) (n == 4) (n == 5) o h t
+calm_instr (Copy node) n source calm o h t = not_both o o refl (copy_stays o (copy_copies n o h)) t
 calm_instr Enter n source calm o h t = frame_still EnterOp o (n == 0) refl h t
 calm_instr Leave n source calm o h t = frame_still LeaveOp o (n == 0) refl h t
 
@@ -293,17 +279,17 @@ module _ (e : Ext) (fit : IsFit e.table) (block : ExtBlock) (s : Setting) (b end
   jump_by n p purpose op (End (Jump to)) ops is front once source out = λ o h t.
       let at : (made n p purpose op (End (Jump to))).cycle ≡ p.cycle = ap (λ (k : ExtKind). planned_cycle end k p.cycle) is in
       let stay = stays_at (progress_of e block s p purpose op (End (Jump to))) ops refl once out in
-      let quick = (fit.latencies JumpOp).2 in
+      let quick = transfer_latency e.table fit (Jump to) in
       omega arith
   jump_by n p purpose op (End (Branch pred true to)) ops is front once source out = λ o h t.
       let at : (made n p purpose op (End (Branch pred true to))).cycle ≡ p.cycle = ap (λ (k : ExtKind). planned_cycle end k p.cycle) is in
       let stay = stays_at (progress_of e block s p purpose op (End (Branch pred true to))) ops refl once out in
-      let quick = (fit.latencies JumpIf).2 in
+      let quick = transfer_latency e.table fit (Branch pred true to) in
       omega arith
   jump_by n p purpose op (End (Branch pred false to)) ops is front once source out = λ o h t.
       let at : (made n p purpose op (End (Branch pred false to))).cycle ≡ p.cycle = ap (λ (k : ExtKind). planned_cycle end k p.cycle) is in
       let stay = stays_at (progress_of e block s p purpose op (End (Branch pred false to))) ops refl once out in
-      let quick = (fit.latencies JumpIfNot).2 in
+      let quick = transfer_latency e.table fit (Branch pred false to) in
       omega arith
   jump_by n p purpose op kind ops is front once source out = λ o h t.
       absurd (calm_instr op.kind (step_of e block s p purpose op kind).instr (subst IsSourceKind (sym is) source) (ap is_end is) o h t)

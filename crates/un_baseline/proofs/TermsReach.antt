@@ -8,7 +8,7 @@ use Rattle.un_base.specs.declared.ids.BlockId.{BlockId}
 use Rattle.un_base.specs.declared.ids.NameId.{NameId}
 use Rattle.un_isa.specs.Fit.{IsFit}
 use Rattle.un_isa.specs.Tables.{latency_of}
-use Rattle.un_isa.specs.declared.op.Op.TheVariants.{Jump as JumpOp, JumpIf, JumpIfNot}
+use Rattle.un_isa.specs.declared.op.Op.TheVariants.{Jump as JumpOp}
 use Rattle.un_isa.specs.declared.table.Table.{Table}
 use Rattle.un_ir.specs.declared.function.Kind.TheVariants.{Pred}
 use Rattle.un_ir.specs.declared.function.Term.{Term}
@@ -46,14 +46,12 @@ use Rattle.un_baseline.proofs.EndsReach.{operands_tail, out_tail, out_reach}
 abbrev pub going_packets : Table → Term → ℕ
 going_packets t Fall = 0
 going_packets t (Jump to) = latency_of t JumpOp
-going_packets t (Branch pred true to) = operand_packets t Pred + latency_of t JumpIf
-going_packets t (Branch pred false to) = operand_packets t Pred + latency_of t JumpIfNot
+going_packets t (Branch pred sense to) = operand_packets t Pred + latency_by t (transfer_of (Branch pred sense to))
 going_packets t (Ret value) = 0
 
 branch_sum : (t : Table) (pred : NameId) (sense : Bool) (to : BlockId) (q p r sum : ℕ) → q ≡ p + sum → sum ≡ operand_packets t Pred + 0
     → r ≡ q + latency_by t (transfer_of (Branch pred sense to)) → r ≡ p + going_packets t (Branch pred sense to)
-branch_sum t pred true to q p r sum a b c = omega arith
-branch_sum t pred false to q p r sum a b c = omega arith
+branch_sum t pred sense to q p r sum a b c = omega arith
 
 module _ (e : Ext) (o : Options) (roomy : AreRoomy e o) (fit : IsFit e.table) (extended : IsExtended e) (b : ℕ) (entry : Bool)
     (block : ExtBlock)

@@ -3,7 +3,7 @@ use Rattle.std.specs.Prelude.{ℕ, ◌+◌, ◌*◌, Bool, true, false, List, []
 use Rattle.un_base.specs.declared.ids.NameId.{NameId}
 use Rattle.un_isa.specs.Tables.{latency_of}
 use Rattle.un_isa.specs.declared.op.Op.{Op}
-use Rattle.un_isa.specs.declared.op.Op.TheVariants.{Call, Jump as JumpOp, JumpIf, JumpIfNot, Jumpr, Spill, Reload, P2R, R2P}
+use Rattle.un_isa.specs.declared.op.Op.TheVariants.{Call, Jump as JumpOp, Jumpr, Spill, Reload, P2R, R2P}
 use Rattle.un_isa.specs.declared.op.Op.TheVariants.{Enter as EnterOp, Leave as LeaveOp}
 use Rattle.un_isa.specs.declared.table.Table.{Table}
 use Rattle.un_ir.specs.declared.function.Kind.{Kind}
@@ -15,6 +15,7 @@ use Rattle.un_ir.specs.declared.function.Block.{Block}
 use Rattle.un_ir.specs.declared.function.Function.{Function}
 use Rattle.un_ir.specs.WellFormed.{operand_kinds, result_kind}
 use Rattle.un_ir.specs.LinearOf.{live_at}
+use Rattle.un_model.specs.Instructions.{latency_by, transfer_of}
 
 -- the packets in which an operand is reloaded
 abbrev pub operand_packets : Table → Kind → ℕ
@@ -42,8 +43,7 @@ source_packets t o = sum_by (operand_packets t) (read_kinds o o.op) + latency_of
 abbrev pub end_packets : Table → Term → ℕ
 end_packets t Fall = 0
 end_packets t (Jump to) = latency_of t JumpOp
-end_packets t (Branch pred true to) = operand_packets t Pred + latency_of t JumpIf
-end_packets t (Branch pred false to) = operand_packets t Pred + latency_of t JumpIfNot
+end_packets t (Branch pred sense to) = operand_packets t Pred + latency_by t (transfer_of (Branch pred sense to))
 end_packets t (Ret None) = operand_packets t General + latency_of t LeaveOp + latency_of t Jumpr
 end_packets t (Ret (Some name)) = operand_packets t General + operand_packets t General + latency_of t LeaveOp + latency_of t Jumpr
 

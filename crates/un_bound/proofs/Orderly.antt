@@ -11,8 +11,10 @@ use Rattle.un_base.specs.declared.ids.TempId.{TempId}
 use Rattle.un_isa.specs.Facts.{is_source}
 use Rattle.un_isa.specs.Fit.{IsFit}
 use Rattle.un_isa.specs.declared.op.Op.{Op}
-use Rattle.un_isa.specs.declared.op.Op.TheVariants.{Load, Store, Call, Jump, JumpIf, JumpIfNot, Jumpr}
+use Rattle.un_isa.specs.declared.op.Op.TheVariants.{Load, Store, Call}
 use Rattle.un_isa.specs.declared.table.Table.{Table}
+use Rattle.un_isa.specs.Does.{is_transfer}
+use Rattle.un_isa.proofs.DoesLaws.{source_stays}
 use Rattle.un_ir.specs.declared.extended.ExtKind.{ExtKind}
 use Rattle.un_ir.specs.declared.extended.ExtKind.TheVariants.{In, Out, Body, End, Copy, Enter, Leave}
 use Rattle.un_ir.specs.declared.extended.Operand.{Operand}
@@ -30,7 +32,7 @@ use Rattle.un_model.specs.Arcs.{IsLargest, IsArcOf, RisesTo}
 use Rattle.un_model.specs.Arcs.NeedsGap.{ByData, ByMemory}
 use Rattle.un_model.specs.ArcLaws.{arc_told, arcs_rise}
 use Rattle.un_model.proofs.Gaps.{gap_short}
-use Rattle.un_model.specs.Instructions.{instruction_of, is_transfer}
+use Rattle.un_model.specs.Instructions.{instruction_of}
 use Rattle.un_model.specs.Pairs.{places_from}
 use Rattle.un_model.specs.Solutions.{latency_gap, memory_distance, after_load, after_write}
 use Rattle.un_model.specs.Variables.{IsModel, arcs_of, register_place, var_count, block_count, op_temps, ops_temps, blocks_temps, temp_of}
@@ -77,13 +79,6 @@ lead_by_memory (End term) b g h = memory_leads (instruction_of (End term) 0) b g
 lead_by_memory (Copy node) b g h = tt
 lead_by_memory Enter b g h = tt
 lead_by_memory Leave b g h = tt
-
-source_stays : (op : Op) → is_source op ≡ true → is_transfer op ≡ false
-source_stays Jump h = absurd (cc h)
-source_stays JumpIf h = absurd (cc h)
-source_stays JumpIfNot h = absurd (cc h)
-source_stays Jumpr h = absurd (cc h)
-source_stays op h = refl
 
 lead_by_data : (t : Table) (block : ExtBlock) (kind : ExtKind) (op : ExtOp) → IsGoodKind kind op
     → length op.results ≡ result_count t block kind → 0 < length op.results → MayLead kind

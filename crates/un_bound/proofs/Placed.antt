@@ -5,6 +5,7 @@ use Rattle.std.specs.Prelude.{if◌then◌else◌, slice_get, slice_index, slice
 use Rattle.std.proofs.lemmas.Option.{slice_get_cases}
 use Rattle.un_domains.specs.SetLaws.{same_or_not}
 use Rattle.un_isa.specs.declared.op.Op.{Op}
+use Rattle.un_isa.specs.Does.{is_transfer}
 use Rattle.un_ir.specs.declared.extended.ExtKind.{ExtKind}
 use Rattle.un_ir.specs.declared.extended.ExtKind.TheVariants.{In, Out, Body, End, Copy, Enter, Leave}
 use Rattle.un_ir.specs.declared.extended.ExtOp.{ExtOp}
@@ -13,7 +14,7 @@ use Rattle.un_bound.specs.Arcs.{MayLead, MayWait, LeadsOn, LeadOn}
 use Rattle.un_bound.specs.Timings.{IsTimed, AtEach, IsKept, IsTiming, IsLeastLength}
 use Rattle.un_bound.specs.Lengths.{Choice, AreChosen, KeepFirst, AreEarliest, FromFirst, first_by, first_cycle, end_by, end_after, IsEnd}
 use Rattle.un_bound.specs.Lengths.{IsLeastEnd, AreSmall}
-use Rattle.un_model.specs.Instructions.{instruction_of, is_transfer}
+use Rattle.un_model.specs.Instructions.{instruction_of}
 use Rattle.un_model.specs.Solutions.{IsPlacedAs}
 
 -- ---- cycles with the block's end and its transfers at this end

@@ -5,6 +5,7 @@ use Rattle.std.specs.Prelude.{if◌then◌else◌, slice_get, slice_index, IfSom
 use Rattle.std.proofs.lemmas.Option.{slice_get_cases}
 use Rattle.un_base.specs.declared.ids.VarId.{VarId}
 use Rattle.un_isa.specs.declared.op.Op.{Op}
+use Rattle.un_isa.specs.Does.{is_transfer}
 use Rattle.un_ir.specs.declared.extended.ExtKind.{ExtKind}
 use Rattle.un_ir.specs.declared.extended.ExtKind.TheVariants.{In, Out, Body, End, Copy, Enter, Leave}
 use Rattle.un_ir.specs.declared.extended.ExtOp.{ExtOp}
@@ -12,7 +13,7 @@ use Rattle.un_domains.specs.Sets.{Sets}
 use Rattle.un_model.specs.declared.model.Arc.{Arc}
 use Rattle.un_model.specs.declared.model.OpVars.{OpVars}
 use Rattle.un_ir.specs.Kinds.{is_mandatory}
-use Rattle.un_model.specs.Instructions.{instruction_of, is_transfer}
+use Rattle.un_model.specs.Instructions.{instruction_of}
 use Rattle.un_model.specs.Solutions.{IsPlacedAs, IsLast}
 use Rattle.un_bound.specs.Arcs.{LeadOn}
 use Rattle.un_bound.specs.Timings.{IsTimed}

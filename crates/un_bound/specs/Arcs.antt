@@ -5,11 +5,12 @@ use Rattle.un_ir.specs.declared.extended.ExtKind.TheVariants.{Out, Body, End}
 use Rattle.un_ir.specs.declared.extended.ExtOp.{ExtOp}
 use Rattle.un_ir.specs.declared.extended.ExtBlock.{ExtBlock}
 use Rattle.un_isa.specs.declared.op.Op.{Op}
+use Rattle.un_isa.specs.Does.{is_transfer}
 use Rattle.un_model.specs.declared.model.Model.{Model}
 use Rattle.un_model.specs.Extended.{HasSmallCounts}
 use Rattle.un_bound.specs.declared.lengths.TheConstants.{ROOM}
 use Rattle.un_model.specs.declared.model.Arc.{Arc}
-use Rattle.un_model.specs.Instructions.{instruction_of, is_transfer}
+use Rattle.un_model.specs.Instructions.{instruction_of}
 
 -- nothing waits for a block's end, nor for a transfer; its start and optional operations wait for nothing
 abbrev pub MayLead : ExtKind → Type 0

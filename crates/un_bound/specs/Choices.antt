@@ -3,6 +3,7 @@ use Rattle.std.specs.Prelude.{ℕ, ◌≡◌, ◌+◌, ◌-◌, ◌*◌, ◌<◌
 use Rattle.std.specs.Prelude.{slice_get, slice_index, slice_set}
 use Rattle.un_base.specs.declared.ids.VarId.{VarId}
 use Rattle.un_isa.specs.declared.op.Op.{Op}
+use Rattle.un_isa.specs.Does.{is_transfer}
 use Rattle.un_ir.specs.declared.extended.ExtKind.{ExtKind}
 use Rattle.un_ir.specs.declared.extended.ExtKind.TheVariants.{In, Out, Body, End}
 use Rattle.un_ir.specs.declared.extended.ExtOp.{ExtOp}
@@ -11,7 +12,7 @@ use Rattle.un_domains.specs.Sets.{Sets}
 use Rattle.un_model.specs.declared.model.Arc.{Arc}
 use Rattle.un_model.specs.declared.model.OpVars.{OpVars}
 use Rattle.un_model.specs.declared.model.BlockVars.{BlockVars}
-use Rattle.un_model.specs.Instructions.{instruction_of, is_transfer}
+use Rattle.un_model.specs.Instructions.{instruction_of}
 use Rattle.un_bound.specs.Timings.{cycle_in}
 use Rattle.un_bound.specs.Lengths.{Choice, AreChosen, KeepFirst, AreEarliest, first_cycle}
 use Rattle.un_bound.specs.Relaxations.{Times, IsValue, IsRelaxed}

@@ -12,7 +12,8 @@ use crate::lengths::{first_cycle, least_end};
 use un_base::ids::VarId;
 use un_domains::store::Store;
 use un_ir::extended::{ExtBlock, ExtKind, ExtOp};
-use un_model::instructions::{instruction, is_transfer};
+use un_isa::does::is_transfer;
+use un_model::instructions::instruction;
 use un_model::model::{Arc, BlockVars, OpVars};
 
 /// The least value of a variable from `at` on.

@@ -5,13 +5,13 @@ use Rattle.std.specs.Prelude.{◌||◌, is_some, Option, Some, None, slice_get, 
 use Rattle.std.specs.Option.{option_map}
 use Rattle.un_base.specs.declared.ids.TempId.{TempId}
 use Rattle.un_isa.specs.declared.op.Op.{Op}
-use Rattle.un_isa.specs.declared.op.Op.TheVariants.{Mov, Spill, Reload, P2R, R2P, Jump as JumpOp, JumpIf, JumpIfNot, Jumpr}
 use Rattle.un_isa.specs.declared.op.Op.TheVariants.{Enter as EnterOp, Leave as LeaveOp}
 use Rattle.un_isa.specs.declared.reg.TheConstants.{FIRST_SLOT}
 use Rattle.un_isa.specs.declared.instr.Instr.{Instr}
+use Rattle.un_isa.specs.Does.{is_transfer, is_control}
+use Rattle.un_isa.proofs.DoesLaws.{transfer_control, source_stays, copy_stays}
 use Rattle.un_ir.specs.declared.function.Kind.{Kind}
 use Rattle.un_ir.specs.declared.function.Kind.TheVariants.{Pred}
-use Rattle.un_ir.specs.declared.function.SrcOp.{SrcOp}
 use Rattle.un_ir.specs.declared.function.Term.{Term}
 use Rattle.un_ir.specs.declared.function.Term.TheVariants.{Fall, Jump, Branch, Ret}
 use Rattle.un_ir.specs.declared.extended.ExtKind.{ExtKind}
@@ -24,21 +24,21 @@ use Rattle.un_ir.specs.Extended.{Want, wants_of, is_end, IsGoodKind, IsSourceOp}
 use Rattle.un_ir.specs.Linear.{Values, World, value_of, out_operands, Ending, ending_of, is_out}
 use Rattle.un_model.specs.declared.model.Options.{Options}
 use Rattle.un_model.specs.Emission.{label_of, instr_if, instr_by, frame_of, operand_registers, result_register}
-use Rattle.un_model.specs.Instructions.{instruction_of, transfer_of as transfer_op_of, copy_of, frame_instr}
+use Rattle.un_model.specs.Instructions.{instruction_of, transfer_of as transfer_op_of, frame_instr}
+use Rattle.un_model.proofs.Transfers.{transfer_leaves, copy_copies}
 use Rattle.un_ir.specs.Kinds.{is_delimiter}
 use Rattle.un_model.specs.Schedules.{cycle_by, value_by, instr_of}
 use Rattle.un_model.specs.Variables.{model_of, var_at, ops_count}
 use Rattle.un_packet.specs.Step.{PacketState}
 use Rattle.un_simulation.specs.Simulation.{as_held, held_at}
 use Rattle.un_model.proofs.Lists.{Member, each_member, each_of, pairwise_two, place_of, found, none_found, find_none}
-use Rattle.un_emit.proofs.Timed.{Job, Stands, NotBoth, is_transfer, is_control}
+use Rattle.un_emit.proofs.Timed.{Job, Stands, NotBoth}
 use Rattle.un_emit.proofs.Exits.{transfer_of, is_false}
 use Rattle.un_emit.proofs.Cycles.{At, first_read}
 use Rattle.un_model.proofs.Placed.{Placed, vars_of, issue_at, end_of, region_placed}
 use Rattle.un_model.proofs.PlacedSchedules.{all, range_at}
 use Rattle.un_model.proofs.Readings.{Solved, placed_good, Reading, reading, waited_latency}
-use Rattle.un_emit.proofs.JobDeeds.{temps_of, active_in, TextClass, text_class, alu, load as loading, store as storing, call as calling}
-use Rattle.un_emit.proofs.Deeds.{alu_op}
+use Rattle.un_emit.proofs.JobDeeds.{temps_of, active_in}
 use Rattle.un_emit.proofs.BlockJobs.{InRegion, IsJob, job_from, some_active}
 use Rattle.un_emit.proofs.BlockTimed.{its_end, its_block, own_end, own_jobs, block_timed, has_job, job_op}
 use Rattle.un_emit.proofs.Places.{words, placing}
@@ -180,25 +180,6 @@ module _ (e : Ext) (o : Options) (values : List ℕ) (h : Solved e o values) (k 
           go true g = absurd (cc g)
           go false g = let y : f ≡ op = cc g in never (ap is_transfer (sym y) ∙ z)
 
-      copied : (n : ℕ) → copy_of n ≡ Some op → Goal
-      copied n f = by_test (n == 1) (n == 2) (n == 3) (n == 4) (n == 5) f
-        where
-          by_test : (a b c d g : Bool) → (if a then Some Mov else
-              (if b then Some Spill else (if c then Some Reload else (if d then Some P2R else (if g then Some R2P else None))))) ≡ Some op
-              → Goal
-          by_test true b c d g f = let y : Mov ≡ op = cc f in never (ap is_transfer (sym y))
-          by_test false true c d g f = let y : Spill ≡ op = cc f in never (ap is_transfer (sym y))
-          by_test false false true d g f = let y : Reload ≡ op = cc f in never (ap is_transfer (sym y))
-          by_test false false false true g f = let y : P2R ≡ op = cc f in never (ap is_transfer (sym y))
-          by_test false false false false true f = let y : R2P ≡ op = cc f in never (ap is_transfer (sym y))
-          by_test false false false false false f = absurd (cc f)
-
-      of_class : (so : SrcOp) → so.op ≡ op → TextClass so.op → Goal
-      of_class so s (alu a t) = never (ap is_transfer (sym s) ∙ (alu_op so.op a).transfers)
-      of_class so s (loading y) = never (ap is_transfer (sym s ∙ y))
-      of_class so s (storing y) = never (ap is_transfer (sym s ∙ y))
-      of_class so s (calling y) = never (ap is_transfer (sym s ∙ y))
-
       by_kind : (x : ExtKind) → p.op.kind ≡ x → instr_of values p.op (vars_of p) ≡ Some op → Goal
       by_kind In s g = let z = with_kind In s g in absurd (cc z)
       by_kind Out s g = let z = with_kind Out s g in absurd (cc z)
@@ -207,21 +188,15 @@ module _ (e : Ext) (o : Options) (values : List ℕ) (h : Solved e o values) (k 
           let good = placed_good e o values h p (of_all e o values h k block r p m).0 in
           let ks = good.keeps in
           let so_good : IsSourceOp so = subst (λ (x : ExtKind). IsGoodKind x p.op) s ks.kind in
-          of_class so (cc z) (text_class so.op so_good.op)
+          let same : so.op ≡ op = cc z in
+          never (ap is_transfer (sym same) ∙ source_stays so.op so_good.op)
       by_kind (End term) s g = (term, s, with_kind (End term) s g)
-      by_kind (Copy node) s g = copied (value_by values (vars_of p).instr) (with_kind (Copy node) s g)
+      by_kind (Copy node) s g = never (copy_stays op (copy_copies (value_by values (vars_of p).instr) op (with_kind (Copy node) s g)))
       by_kind Enter s g = framed EnterOp (value_by values (vars_of p).instr) refl (with_kind Enter s g)
       by_kind Leave s g = framed LeaveOp (value_by values (vars_of p).instr) refl (with_kind Leave s g)
 
   abbrev jobs : List Job
   jobs = own_jobs e o values h (words e o values h) (placing e o values h) k block r
-
-  transfer_control : (op : Op) → is_transfer op ≡ true → is_control op ≡ true
-  transfer_control JumpOp q = refl
-  transfer_control JumpIf q = refl
-  transfer_control JumpIfNot q = refl
-  transfer_control Jumpr q = refl
-  transfer_control _ q = absurd (cc q)
 
   -- two jobs that transfer control are one
   one_transfer : (i j : Job) → Member i jobs → Member j jobs → is_transfer i.instr.op ≡ true → is_transfer j.instr.op ≡ true → i ≡ j
@@ -234,13 +209,6 @@ module _ (e : Ext) (o : Options) (values : List ℕ) (h : Solved e o values) (k 
       (λ (x : NotBoth is_control i j). absurd (x same (transfer_control i.instr.op s) (transfer_control j.instr.op t)))
       (λ (x : NotBoth is_control j i). absurd (x (sym same) (transfer_control j.instr.op t) (transfer_control i.instr.op s))) d)
       (pairwise_two (NotBoth is_control) jobs i j z.one_control m n)
-
-  transfer_is : (term : Term) (op : Op) → transfer_op_of term ≡ Some op → is_transfer op ≡ true
-  transfer_is Fall op q = absurd (cc q)
-  transfer_is (Jump to) op q = let z : JumpOp ≡ op = cc q in ap is_transfer (sym z)
-  transfer_is (Branch pred true to) op q = let z : JumpIf ≡ op = cc q in ap is_transfer (sym z)
-  transfer_is (Branch pred false to) op q = let z : JumpIfNot ≡ op = cc q in ap is_transfer (sym z)
-  transfer_is (Ret value) op q = let z : Jumpr ≡ op = cc q in ap is_transfer (sym z)
 
   -- how the block ends: by no transfer, or by the job of its terminator
   pub data EndJob : Type 0 where
@@ -281,7 +249,7 @@ module _ (e : Ext) (o : Options) (values : List ℕ) (h : Solved e o values) (k 
               (λ y. let g : End term ≡ In = sym kp ∙ y in absurd (cc g)) (λ y. let g : End term ≡ Out = sym kp ∙ y in absurd (cc g)) in
               let jo : Some j.0.instr.op ≡ Some tr = sym (job_op e o values h p j.0 j.2) ∙ ins in
               let jo' : j.0.instr.op ≡ tr = cc jo in
-              let t : is_transfer j.0.instr.op ≡ true = ap is_transfer jo' ∙ transfer_is term tr s in
+              let t : is_transfer j.0.instr.op ≡ true = ap is_transfer jo' ∙ transfer_leaves term tr s in
               one_job p j.0 term z.1 j.2 (first j.0 j.1 t (transfer_of jobs) refl) kp (s ∙ ap Some (sym jo'))
               (q ∙ ap (λ (x : ExtOp). let y : Ending = record { term = term; operands = x.operands } in y) (sym z.2))
             where
@@ -299,10 +267,10 @@ module _ (e : Ext) (o : Options) (values : List ℕ) (h : Solved e o values) (k 
               let g = only p.op (op_of e o values h k block r at p m) (ap is_end z) in
               let y : End t ≡ End term = sym z ∙ ap (λ (w : ExtOp). w.kind) g ∙ kd in
               let y' : t ≡ term = cc y in y' ∙ s)) (ap (λ (x : Ending). x.term) q ∙ s)
-          by_term (Jump to) s kd q = by_op JumpOp (ap transfer_op_of s)
-          by_term (Branch pred true to) s kd q = by_op JumpIf (ap transfer_op_of s)
-          by_term (Branch pred false to) s kd q = by_op JumpIfNot (ap transfer_op_of s)
-          by_term (Ret value) s kd q = by_op Jumpr (ap transfer_op_of s)
+          by_term (Jump to) s kd q = by_op _ (ap transfer_op_of s)
+          by_term (Branch pred true to) s kd q = by_op _ (ap transfer_op_of s)
+          by_term (Branch pred false to) s kd q = by_op _ (ap transfer_op_of s)
+          by_term (Ret value) s kd q = by_op _ (ap transfer_op_of s)
 
   -- the label of the terminator's job
   pub job_label : (p : Placed) (j : Job) (term : Term) → IsJob e o values h p j → p.op.kind ≡ End term

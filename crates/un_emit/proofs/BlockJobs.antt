@@ -11,6 +11,7 @@ use Rattle.un_isa.specs.declared.op.Op.TheVariants.{Call, Spill, Reload, Enter a
 use Rattle.un_isa.specs.declared.reg.TheConstants.{FIRST_SLOT}
 use Rattle.un_isa.specs.declared.reg.Reg.{Reg}
 use Rattle.un_isa.specs.declared.instr.Instr.{Instr}
+use Rattle.un_isa.specs.Does.{moves_stack}
 use Rattle.un_ir.specs.declared.function.Kind.TheVariants.{Pred}
 use Rattle.un_ir.specs.declared.function.SrcOp.{SrcOp}
 use Rattle.un_ir.specs.declared.extended.NodeCopy.{NodeCopy}
@@ -29,7 +30,6 @@ use Rattle.un_model.specs.Variables.{model_of, var_at, var_count, ops_count, blo
 use Rattle.un_model.proofs.Lists.{Each, Pairwise, Member, each_member, each_of, pairwise_append_left, pairwise_append_right}
 use Rattle.un_model.proofs.Lists.{member_append_left, member_append_right}
 use Rattle.un_emit.proofs.Timed.{Job, Deed}
-use Rattle.un_emit.proofs.Packet.{moves_stack}
 use Rattle.un_model.proofs.Placed.{Placed, placed, block_placed, blocks_placed, vars_of, issue_at, Region, region_placed}
 use Rattle.un_model.proofs.PlacedSchedules.{all, range_at, joined_member}
 use Rattle.un_model.proofs.Readings.{Solved, placed_good}

@@ -7,19 +7,13 @@ use Rattle.std.specs.Option.{option_map, option_to_list}
 use Rattle.std.proofs.lemmas.Bool.{cases_eq, cases_lt, eq-eqb}
 use Rattle.un_base.specs.declared.ids.TempId.{TempId}
 use Rattle.un_base.specs.declared.ids.VarId.{VarId}
-use Rattle.un_isa.specs.Facts.{class_of}
-use Rattle.un_isa.specs.Fit.{IsFit, AreFitNeeds}
-use Rattle.un_isa.specs.Hexagon.{needs_by as least_needs}
-use Rattle.un_isa.specs.Tables.{number_of, in_mask}
+use Rattle.un_isa.specs.Tables.{in_mask}
 use Rattle.un_isa.specs.declared.op.Op.{Op}
-use Rattle.un_isa.specs.declared.op.Op.TheVariants.{Mov, P2R, R2P, Load, Store, Call, Jump as JumpOp, JumpIf, JumpIfNot, Jumpr, Spill}
-use Rattle.un_isa.specs.declared.op.Op.TheVariants.{Reload, Enter as EnterOp, Leave as LeaveOp}
-use Rattle.un_isa.specs.declared.table.Needs.{Needs}
-use Rattle.un_isa.specs.declared.table.Table.{Table}
+use Rattle.un_isa.specs.declared.op.Op.TheVariants.{Load, Store, Call}
+use Rattle.un_isa.specs.declared.op.Op.TheVariants.{Enter as EnterOp, Leave as LeaveOp}
 use Rattle.un_isa.specs.declared.instr.Instr.{Instr}
-use Rattle.un_ir.specs.declared.function.SrcOp.{SrcOp}
-use Rattle.un_ir.specs.declared.function.Term.{Term}
-use Rattle.un_ir.specs.declared.function.Term.TheVariants.{Fall, Jump, Branch, Ret}
+use Rattle.un_isa.specs.Does.{writes_memory, is_control, is_transfer, moves_stack}
+use Rattle.un_isa.proofs.DoesLaws.{copy_stack, transfer_stack, source_stack}
 use Rattle.un_ir.specs.declared.extended.ExtKind.{ExtKind}
 use Rattle.un_ir.specs.declared.extended.ExtKind.TheVariants.{In, Out, Body, End, Copy, Enter, Leave}
 use Rattle.un_ir.specs.declared.extended.ExtOp.{ExtOp}
@@ -29,11 +23,11 @@ use Rattle.un_ir.specs.Extended.{result_count, IsSourceOp, IsGoodKind, is_enter,
 use Rattle.un_model.specs.declared.model.Options.{Options}
 use Rattle.un_model.specs.declared.schedule.LiveRange.{LiveRange}
 use Rattle.un_model.specs.declared.schedule.Issue.{Issue}
+use Rattle.un_model.proofs.Transfers.{transfer_leaves, copy_copies, control_need, store_need}
 use Rattle.un_isa.specs.declared.packet_counts.Resource.{Resource}
 use Rattle.un_isa.specs.declared.packet_counts.Resource.TheVariants.{Stores, Control}
 use Rattle.un_model.specs.Cost.{value_of}
-use Rattle.un_model.specs.Instructions.{latency_by, needs_by, no_needs, instruction_of, transfer_of, copy_of, frame_instr}
-use Rattle.un_model.specs.Instructions.{is_transfer as ends_block}
+use Rattle.un_model.specs.Instructions.{latency_by, instruction_of, frame_instr}
 use Rattle.un_model.specs.Emission.{instr_if, instr_by, frame_of, operand_registers, result_register}
 use Rattle.un_ir.specs.Kinds.{is_delimiter, is_frame_op}
 use Rattle.un_model.specs.Schedules.{instr_of, issues_of, value_by, cycle_by}
@@ -43,9 +37,8 @@ use Rattle.un_isa.specs.PacketCounts.{places_of}
 use Rattle.un_model.specs.Variables.{model_of, var_at, var_count, ops_count}
 use Rattle.un_model.proofs.Lists.{Each, Pairwise, Member, each_member, each_of, each_all, pairwise_of_map, pairwise_more, member_at}
 use Rattle.un_model.proofs.Lists.{member_map, length_get}
-use Rattle.un_emit.proofs.Timed.{Job, Stands, Deed, AreTemps, Timed, NotBoth, GiveApart, Clobbers, writes_memory, is_control, is_transfer}
+use Rattle.un_emit.proofs.Timed.{Job, Stands, Deed, AreTemps, Timed, NotBoth, GiveApart, Clobbers}
 use Rattle.un_emit.proofs.Effects.{InOrder, is_access, is_effect}
-use Rattle.un_emit.proofs.Packet.{moves_stack}
 use Rattle.un_model.proofs.Placed.{Placed, placed, vars_of, issue_at, end_of, region_placed, Spot, spot, spots_of, Counts, all_count}
 use Rattle.un_model.proofs.Placed.{at_number, issues_are}
 use Rattle.un_model.proofs.PlacedSchedules.{all, spots, the_ranges, range_at, spot_range, active_spot, idle_range, one_spot, each_issue}
@@ -53,8 +46,7 @@ use Rattle.un_model.proofs.PlacedSchedules.{pairwise_issues, joined_member, plac
 use Rattle.un_model.proofs.Readings.{Solved, numbered, placed_good}
 use Rattle.un_emit.proofs.Jobs.{job_with, job_by, instr_at, job_of, jobs_of, given_temp}
 use Rattle.un_model.proofs.OpDomains.{flag_sits}
-use Rattle.un_emit.proofs.Deeds.{alu_op}
-use Rattle.un_emit.proofs.JobDeeds.{temps_of, TextClass, text_class, alu, load as loading, store as storing, call as calling}
+use Rattle.un_emit.proofs.JobDeeds.{temps_of}
 use Rattle.un_emit.proofs.BlockJobs.{InRegion, in_region, region_block, pairwise_region, IsJob, job_is, each_job, pairwise_jobs, Placing}
 use Rattle.un_emit.proofs.BlockJobs.{active_of, deed_of}
 
@@ -139,41 +131,6 @@ fold_pairs f (x ∷ xs) a h = (
 
 one_place : {X : Type 0} (f : X → ℕ) (xs : List X) → sum_by f xs ≤ 1 → Pairwise (λ x y. 1 ≤ f x → 1 ≤ f y → ⊥) xs
 one_place f xs h = fold_pairs f xs 0 h
-
-store_need : (t : Table) (op : Op) → IsFit t → writes_memory op ≡ true → 1 ≤ (needs_by t (Some op)).store
-store_need t Store fit w = need (slice_get t.uses (number_of Store)) (fit.needs Store)
-  where
-    need : (x : Option Needs) → IsSomeAnd x (AreFitNeeds (least_needs (class_of Store))) → 1 ≤ (unwrap_or x no_needs).store
-    need None h = absurd h
-    need (Some n) h = let a = h.store in a.0
-store_need t Spill fit w = need (slice_get t.uses (number_of Spill)) (fit.needs Spill)
-  where
-    need : (x : Option Needs) → IsSomeAnd x (AreFitNeeds (least_needs (class_of Spill))) → 1 ≤ (unwrap_or x no_needs).store
-    need None h = absurd h
-    need (Some n) h = let a = h.store in a.0
-store_need t _ fit w = absurd (cc w)
-
-control_by : (t : Table) (op : Op) → IsFit t → 1 ≤ (least_needs (class_of op)).control → 1 ≤ (needs_by t (Some op)).control
-control_by t op fit le = need (slice_get t.uses (number_of op)) (fit.needs op)
-  where
-    need : (x : Option Needs) → IsSomeAnd x (AreFitNeeds (least_needs (class_of op))) → 1 ≤ (unwrap_or x no_needs).control
-    need None h = absurd h
-    need (Some n) h = let a = h.control in let b = a.0 in omega arith
-
-control_need : (t : Table) (op : Op) → IsFit t → is_control op ≡ true → 1 ≤ (needs_by t (Some op)).control
-control_need t Call fit w = control_by t Call fit (omega arith)
-control_need t JumpOp fit w = control_by t JumpOp fit (omega arith)
-control_need t JumpIf fit w = control_by t JumpIf fit (omega arith)
-control_need t JumpIfNot fit w = control_by t JumpIfNot fit (omega arith)
-control_need t Jumpr fit w = control_by t Jumpr fit (omega arith)
-control_need t _ fit w = absurd (cc w)
-
-pub transfer_ends : (op : Op) → is_transfer op ≡ true → ends_block op ≡ true
-transfer_ends JumpOp h = refl
-transfer_ends JumpIf h = refl
-transfer_ends JumpIfNot h = refl
-transfer_ends Jumpr h = refl
-transfer_ends _ h = absurd (cc h)
 
 placed_close : (b : ℕ) (owner : ExtBlock) (close : VarId) (n first : ℕ) (ops : List ExtOp) (p : Placed)
     → Member p (placed b owner close n first ops) → p.close ≡ close
@@ -563,34 +520,6 @@ module _ (e : Ext) (o : Options) (values : List ℕ) (h : Solved e o values) whe
 
     -- ---- Enter and Leave
 
-    copy_stays : (n : ℕ) (op : Op) → copy_of n ≡ Some op → moves_stack op ≡ false
-    copy_stays n op q = by_test (n == 1) (n == 2) (n == 3) (n == 4) (n == 5) q
-      where
-        by_test : (a b c d f : Bool) → (if a then Some Mov else (if b then Some Spill else
-            (if c then Some Reload else (if d then Some P2R else (if f then Some R2P else None))))) ≡ Some op → moves_stack op ≡ false
-        by_test true b c d f q = let s : Mov ≡ op = cc q in ap moves_stack (sym s)
-        by_test false true c d f q = let s : Spill ≡ op = cc q in ap moves_stack (sym s)
-        by_test false false true d f q = let s : Reload ≡ op = cc q in ap moves_stack (sym s)
-        by_test false false false true f q = let s : P2R ≡ op = cc q in ap moves_stack (sym s)
-        by_test false false false false true q = let s : R2P ≡ op = cc q in ap moves_stack (sym s)
-        by_test false false false false false q = absurd (cc q)
-
-    transfer_stays : (term : Term) (op : Op) → transfer_of term ≡ Some op → moves_stack op ≡ false
-    transfer_stays Fall op q = absurd (cc q)
-    transfer_stays (Jump to) op q = let s : JumpOp ≡ op = cc q in ap moves_stack (sym s)
-    transfer_stays (Branch pred true to) op q = let s : JumpIf ≡ op = cc q in ap moves_stack (sym s)
-    transfer_stays (Branch pred false to) op q = let s : JumpIfNot ≡ op = cc q in ap moves_stack (sym s)
-    transfer_stays (Ret value) op q = let s : Jumpr ≡ op = cc q in ap moves_stack (sym s)
-
-    source_stays : (so : SrcOp) → IsSourceOp so → moves_stack so.op ≡ false
-    source_stays so g = by_class (text_class so.op g.op)
-      where
-        by_class : TextClass so.op → moves_stack so.op ≡ false
-        by_class (alu a s) = (alu_op so.op a).shifts
-        by_class (loading q) = ap moves_stack q
-        by_class (storing q) = ap moves_stack q
-        by_class (calling q) = ap moves_stack q
-
     -- what moves the stack pointer is Enter or Leave
     pub shift_kind : (p : Placed) (op : Op) → Member p (all e o values) → instr_of values p.op (vars_of p) ≡ Some op → moves_stack op ≡ true
         → ((p.op.kind ≡ Enter) × (op ≡ EnterOp)) ⊎ ((p.op.kind ≡ Leave) × (op ≡ LeaveOp))
@@ -617,11 +546,11 @@ module _ (e : Ext) (o : Options) (values : List ℕ) (h : Solved e o values) whe
             let same : so.op ≡ op = cc z in
             let gp = placed_good e o values h p m in
             let ks = gp.keeps in
-            never (ap moves_stack (sym same) ∙ source_stays so (subst (λ (y : ExtKind). IsGoodKind y p.op) x ks.kind))
-        by_kind (End term) x g = never (transfer_stays term op (sym
-            (ap (λ (y : ExtKind). instruction_of y (value_by values (vars_of p).instr)) x) ∙ g))
-        by_kind (Copy node) x g = never (copy_stays (value_by values (vars_of p).instr) op
-            (sym (ap (λ (y : ExtKind). instruction_of y (value_by values (vars_of p).instr)) x) ∙ g))
+            never (ap moves_stack (sym same) ∙ (let g : IsSourceOp so = subst (λ (y : ExtKind). IsGoodKind y p.op) x ks.kind in source_stack so.op g.op))
+        by_kind (End term) x g = never (transfer_stack op (transfer_leaves term op (sym
+            (ap (λ (y : ExtKind). instruction_of y (value_by values (vars_of p).instr)) x) ∙ g)))
+        by_kind (Copy node) x g = never (copy_stack op (copy_copies (value_by values (vars_of p).instr) op
+            (sym (ap (λ (y : ExtKind). instruction_of y (value_by values (vars_of p).instr)) x) ∙ g)))
         by_kind Enter x g = inl (
           x,
           frame_op EnterOp (value_by values (vars_of p).instr)
@@ -761,7 +690,7 @@ module _ (e : Ext) (o : Options) (values : List ℕ) (h : Solved e o values) whe
           let q = its_end p m in let l = f.0 in let z = l.1 in omega (arith, c, q, z));
       last = each_job e o values h (λ j. is_transfer j.instr.op ≡ true → j.cycle + 1 ≡ own_end) own (λ p j m g t.
           let f = placed_as p j (here p m) g in let c = job_cycle p j g in let q = its_end p m in
-          let z = subst (λ b. IsLast (issue_at values p).cycle (end_of values p) b) (transfer_ends j.instr.op t) f.1 in
+          let z = subst (λ b. IsLast (issue_at values p).cycle (end_of values p) b) t f.1 in
           omega (arith, c, q, z));
       giver = givers;
       give_apart = let counts = (counts_rise 0 (all e o values) (all_count 0 0 0 e.blocks)).0 in
@@ -769,7 +698,7 @@ module _ (e : Ext) (o : Options) (values : List ℕ) (h : Solved e o values) whe
           (pairwise_region (λ (p q : Placed). p.number < q.number) (all e o values) k block r counts)
           (λ p q i j m n lt gi gj. give_apart p q i j (here p m) (here q n) lt gi gj);
       clobbers = each_job e o values h (Clobbers e.table (temps_of e o values h k)) own clobbering;
-      one_write = one_of writes_memory Stores refl (λ op t. store_need e.table op h.fit t);
-      one_control = one_of is_control Control refl (λ op t. control_need e.table op h.fit t);
+      one_write = one_of writes_memory Stores refl (λ op t. store_need e.table h.fit op t);
+      one_control = one_of is_control Control refl (λ op t. control_need e.table h.fit op t);
       one_shift = one_shift at;
     }

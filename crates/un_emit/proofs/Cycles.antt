@@ -14,6 +14,7 @@ use Rattle.un_isa.specs.declared.instr.Instr.{Instr}
 use Rattle.un_isa.specs.declared.table.Table.{Table}
 use Rattle.un_isa.specs.declared.outcome.CallRecord.{CallRecord}
 use Rattle.un_isa.specs.declared.start.Reply.{Reply}
+use Rattle.un_isa.specs.Does.{moves_stack, is_transfer}
 use Rattle.un_ir.specs.Linear.{World}
 use Rattle.un_packet.specs.declared.code.Packet.{Packet}
 use Rattle.un_packet.specs.Step.{PacketState, PacketStep, PacketStop, Went, Jumped, Stopped, Trapped, Waiting, traps, traps_by, reg_in}
@@ -23,11 +24,10 @@ use Rattle.un_model.proofs.Lists.{Each, Pairwise, Member, Split, split_at, Place
 use Rattle.un_model.proofs.Lists.{pairwise_before, pairwise_after, each_member, each_of, each_filter, member_map, member_map_of}
 use Rattle.un_model.proofs.Lists.{member_append_left, member_append_right, member_filter, member_of_filter, any_of, none_any, found}
 use Rattle.un_model.proofs.Lists.{find_none}
-use Rattle.un_emit.proofs.Packet.{moves_stack}
 use Rattle.un_emit.proofs.Settled.{settled, the_call, CanAnswer, first_result, step_settles}
 use Rattle.un_emit.proofs.Timed.{Job, Temps, IsInSlot, ReadsAll, Deed, computes, moves, spills, reloads, from_pred, to_pred, loads, stores}
 use Rattle.un_emit.proofs.Timed.{calls, shifts, leaves, rests, Timed, AreTemps, Together, together, packet_jobs, jobs_at, issues_at}
-use Rattle.un_emit.proofs.Timed.{or_rest, rest_job, instrs, is_transfer}
+use Rattle.un_emit.proofs.Timed.{or_rest, rest_job, instrs}
 use Rattle.un_emit.proofs.Deeds.{alu_op, transfer_op, shift_op}
 use Rattle.un_emit.proofs.InTime.{InTime, CallsFit, issues, in_time_next, has_call, call_job}
 use Rattle.un_emit.proofs.FramePlace.{IsFrame}

@@ -3,20 +3,26 @@ use Rattle.std.proofs.Common.{ℕ, ◌≡◌, ◌≢◌, ◌<◌, ◌≤◌, ◌
 use Rattle.std.proofs.Common.{arith}
 use Rattle.std.specs.Prelude.{Some, None}
 use Rattle.std.specs.Option.{option_map}
+use Rattle.std.proofs.lemmas.Bool.{or_parts}
 use Rattle.un_isa.specs.Operands.{is_alu}
 use Rattle.un_isa.specs.Words.{eval}
 use Rattle.un_isa.specs.declared.op.Op.{Op}
-use Rattle.un_isa.specs.declared.op.Op.TheVariants.{Load, Store, Call, Jump, JumpIf, JumpIfNot, Jumpr, Spill, Reload, Enter, Leave, Nop}
+use Rattle.un_isa.specs.declared.op.Op.TheVariants.{Load, Store, Call, Spill, Reload, Enter, Leave}
+use Rattle.un_isa.specs.declared.does.Does.{Does}
+use Rattle.un_isa.specs.declared.does.Does.TheVariants.{Jumps}
+use Rattle.un_isa.specs.Facts.{does_of}
 use Rattle.un_isa.specs.declared.reg.Reg.{Reg}
 use Rattle.un_isa.specs.declared.instr.Instr.{Instr}
 use Rattle.un_isa.specs.declared.table.Table.{Table}
 use Rattle.un_isa.specs.declared.reg.TheConstants.{STACK, FIRST_SLOT}
-use Rattle.un_packet.specs.Step.{PacketState, is_call, is_return, traps_by, jumps_by, value_by, reads_by, reg_in}
+use Rattle.un_isa.specs.Does.{jumps as jumps_to, is_call, is_return, is_jump, is_transfer, is_control, writes_memory, is_word_access, moves_stack}
+use Rattle.un_isa.proofs.DoesLaws.{alu_stays, alu_stack, alu_memory, alu_access, transfer_stack, transfer_call, transfer_control, transfer_memory, transfer_access}
+use Rattle.un_packet.specs.Step.{PacketState, operand_in, traps_by, jumps_by, goes_by, value_by, reads_by, reg_in}
 use Rattle.un_model.proofs.Lists.{Each, Pairwise, Member, each_member, each_of, each_map, pairwise_more, pairwise_map}
-use Rattle.un_emit.proofs.Packet.{moves_stack, target, target_by, is_store, slot_by, AreApart}
-use Rattle.un_emit.proofs.Timed.{Job, Temps, Stands, IsReadAt, numbers, is_transfer, ReadsAll, Gives, Copies, Deed, computes, moves, spills}
+use Rattle.un_emit.proofs.Packet.{target, target_by, is_store, slot_by, AreApart}
+use Rattle.un_emit.proofs.Timed.{Job, Temps, Stands, IsReadAt, numbers, ReadsAll, Gives, Copies, Deed, computes, moves, spills}
 use Rattle.un_emit.proofs.Timed.{reloads, from_pred, to_pred, loads, stores, calls, shifts, leaves, rests, AreTemps, NotBoth, GiveApart}
-use Rattle.un_emit.proofs.Timed.{writes_memory, is_control, Together, instrs}
+use Rattle.un_emit.proofs.Timed.{Together, instrs}
 
 -- ---- by operation
 
@@ -34,33 +40,52 @@ pub record Computes (op : Op) : Type 0 where
   pub slot : (s : PacketState) (i : Instr) → slot_by op s i ≡ None
   pub value : (s : PacketState) (i : Instr) → value_by op s i ≡ eval i.op (map (reg_in s) i.srcs) i.imm
 
+-- what writes no word stores and spills none
+no_store : (op : Op) → writes_memory op ≡ false → is_store op ≡ false
+no_store Store h = absurd (cc h)
+no_store _ h = refl
+
+no_slot : (op : Op) (s : PacketState) (i : Instr) → writes_memory op ≡ false → slot_by op s i ≡ None
+no_slot Spill s i h = absurd (cc h)
+no_slot _ s i h = refl
+
+-- what accesses no word does not trap
+no_trap : (op : Op) (s : PacketState) (i : Instr) → is_word_access op ≡ false → traps_by op s i ≡ false
+no_trap Load s i h = absurd (cc h)
+no_trap Store s i h = absurd (cc h)
+no_trap Spill s i h = absurd (cc h)
+no_trap Reload s i h = absurd (cc h)
+no_trap _ s i h = refl
+
+computed : (op : Op) (s : PacketState) (i : Instr) → is_word_access op ≡ false
+    → value_by op s i ≡ eval i.op (map (reg_in s) i.srcs) i.imm
+computed Load s i h = absurd (cc h)
+computed Reload s i h = absurd (cc h)
+computed _ s i h = refl
+
+no_jump : (does : Does) (v : ℕ) → jumps_to does ≡ false → goes_by does v ≡ false
+no_jump (Jumps when) v h = absurd (cc h)
+no_jump _ v h = refl
+
 pub alu_op : (op : Op) → is_alu op ≡ true → Computes op
-alu_op Load h = absurd (cc h)
-alu_op Store h = absurd (cc h)
-alu_op Call h = absurd (cc h)
-alu_op Jump h = absurd (cc h)
-alu_op JumpIf h = absurd (cc h)
-alu_op JumpIfNot h = absurd (cc h)
-alu_op Jumpr h = absurd (cc h)
-alu_op Spill h = absurd (cc h)
-alu_op Reload h = absurd (cc h)
-alu_op Enter h = absurd (cc h)
-alu_op Leave h = absurd (cc h)
-alu_op Nop h = absurd (cc h)
-alu_op _ h = record {
-  shifts = refl;
-  calls = refl;
-  returns = refl;
-  transfers = refl;
-  controls = refl;
-  writes = refl;
-  stores = refl;
-  traps =
-      λ s i. refl;
-  jumps = λ s i. refl;
-  slot = λ s i. refl;
-  value = λ s i. refl;
-}
+alu_op op h =
+    let control = or_parts (is_call op) (is_transfer op) (alu_stays op h) in
+    let leave = or_parts (is_jump op) (is_return op) control.1 in
+    let quiet = alu_memory op h in
+    let inside = alu_access op h in
+    record {
+      shifts = alu_stack op h;
+      calls = control.0;
+      returns = leave.1;
+      transfers = control.1;
+      controls = alu_stays op h;
+      writes = quiet;
+      stores = no_store op quiet;
+      traps = λ s i. no_trap op s i inside;
+      jumps = λ s i. no_jump (does_of op) (operand_in s i 0) leave.0;
+      slot = λ s i. no_slot op s i quiet;
+      value = λ s i. computed op s i inside;
+    }
 
 -- what an operation that goes elsewhere does not do
 pub record Transfers (op : Op) : Type 0 where
@@ -73,47 +98,18 @@ pub record Transfers (op : Op) : Type 0 where
   pub slot : (s : PacketState) (i : Instr) → slot_by op s i ≡ None
 
 pub transfer_op : (op : Op) → is_transfer op ≡ true → Transfers op
-transfer_op Jump h = record {
-  shifts = refl;
-  calls = refl;
-  controls = refl;
-  writes = refl;
-  stores = refl;
-  traps = λ s i. refl;
-  slot =
-      λ s i. refl;
-}
-transfer_op JumpIf h = record {
-  shifts = refl;
-  calls = refl;
-  controls = refl;
-  writes = refl;
-  stores = refl;
-  traps = λ s i. refl;
-  slot =
-      λ s i. refl;
-}
-transfer_op JumpIfNot h = record {
-  shifts = refl;
-  calls = refl;
-  controls = refl;
-  writes = refl;
-  stores = refl;
-  traps = λ s i. refl;
-  slot =
-      λ s i. refl;
-}
-transfer_op Jumpr h = record {
-  shifts = refl;
-  calls = refl;
-  controls = refl;
-  writes = refl;
-  stores = refl;
-  traps = λ s i. refl;
-  slot =
-      λ s i. refl;
-}
-transfer_op _ h = absurd (cc h)
+transfer_op op h =
+    let quiet = transfer_memory op h in
+    let inside = transfer_access op h in
+    record {
+      shifts = transfer_stack op h;
+      calls = transfer_call op h;
+      controls = transfer_control op h;
+      writes = quiet;
+      stores = no_store op quiet;
+      traps = λ s i. no_trap op s i inside;
+      slot = λ s i. no_slot op s i quiet;
+    }
 
 -- what Enter and Leave do not do
 pub record Shifts (op : Op) : Type 0 where

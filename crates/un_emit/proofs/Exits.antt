@@ -1,24 +1,29 @@
 -- Where a packet leads: on, to a label or back to the caller, as its only control transfer says.
-use Rattle.std.proofs.Common.{ℕ, ◌≡◌, Bool, true, false, not, List, [], ◌⊎◌, inl, inr, ⊎_elim, refl, sym, ap, ◌∙◌}
-use Rattle.std.specs.Prelude.{Option, Some, None, slice_index, nat_eq, unwrap_or, if◌then◌else◌}
+use Rattle.std.proofs.Common.{ℕ, ◌≡◌, Bool, true, false, List, [], ◌⊎◌, inl, inr, ⊎_elim, refl, sym, ap, ◌∙◌}
+use Rattle.std.specs.Prelude.{Option, Some, None, slice_index, unwrap_or, if◌then◌else◌, ◌||◌}
 use Rattle.std.specs.List.{find}
 use Rattle.un_isa.specs.declared.op.Op.{Op}
-use Rattle.un_isa.specs.declared.op.Op.TheVariants.{Jump, JumpIf, JumpIfNot, Jumpr}
+use Rattle.un_isa.specs.declared.does.Does.{Does}
+use Rattle.un_isa.specs.declared.does.Does.TheVariants.{Jumps, Returns}
+use Rattle.un_isa.specs.Facts.{does_of}
 use Rattle.un_isa.specs.declared.instr.Instr.{Instr}
-use Rattle.un_packet.specs.Step.{PacketState, PacketStep, Went, Jumped, Stopped, Returned, operand_in, is_return, jumps, jumps_by, leads}
+use Rattle.un_isa.specs.Does.{jumps as jumps_to, returns, is_return, is_transfer, is_control}
+use Rattle.un_isa.proofs.DoesLaws.{return_transfer, jump_transfer, transfer_control}
+use Rattle.un_packet.specs.Step.{PacketState, PacketStep, Went, Jumped, Stopped, Returned, operand_in, jumps, goes_by, is_taken, leads}
 use Rattle.un_packet.specs.Step.{goes_on}
 use Rattle.un_model.proofs.Lists.{Each, Pairwise, Member, each_member, each_of, member_map, member_map_of, found, none_found, find_none}
 use Rattle.un_model.proofs.Lists.{pairwise_two}
 use Rattle.un_emit.proofs.Settled.{the_return}
-use Rattle.un_emit.proofs.Timed.{Job, instrs, NotBoth, is_transfer, is_control}
+use Rattle.un_emit.proofs.Timed.{Job, instrs, NotBoth}
 
 -- where a transfer leads whose operand has the value v, with this label, once the packet left the state u
+abbrev pub exit_as : Does → ℕ → Option (List ℕ) → PacketState → PacketStep
+exit_as (Jumps when) v label u = if is_taken when v then Jumped (unwrap_or label []) u else Went u
+exit_as Returns v label u = Stopped (Returned (slice_index u.regs 0) v) u
+exit_as _ v label u = Went u
+
 abbrev pub exit_by : Op → ℕ → Option (List ℕ) → PacketState → PacketStep
-exit_by Jump v label u = Jumped (unwrap_or label []) u
-exit_by JumpIf v label u = if nat_eq v 0 then Went u else Jumped (unwrap_or label []) u
-exit_by JumpIfNot v label u = if nat_eq v 0 then Jumped (unwrap_or label []) u else Went u
-exit_by Jumpr v label u = Stopped (Returned (slice_index u.regs 0) v) u
-exit_by _ v label u = Went u
+exit_by op v label u = exit_as (does_of op) v label u
 
 abbrev pub transfer_of : List Job → Option Job
 transfer_of js = find (λ (j : Job). is_transfer j.instr.op) js
@@ -45,22 +50,12 @@ found_none : (test : Instr → Bool) (js : List Job) → ((i : Job) → Member i
 found_none test js h = find_none test (instrs js) (Rattle.un_model.proofs.Lists.each_map (λ i. test i ≡ false) (λ (j : Job). j.instr) js
     (each_of (λ (i : Job). test i.instr ≡ false) js h))
 
-return_transfer : (op : Op) → is_return op ≡ true → is_transfer op ≡ true
-return_transfer Jumpr h = refl
-return_transfer _ h = absurd (cc h)
+goes_jump : (does : Does) (v : ℕ) → goes_by does v ≡ true → jumps_to does ≡ true
+goes_jump (Jumps when) v h = refl
+goes_jump _ v h = absurd (cc h)
 
-jump_transfer : (op : Op) (s : PacketState) (i : Instr) → jumps_by op s i ≡ true → is_transfer op ≡ true
-jump_transfer Jump s i h = refl
-jump_transfer JumpIf s i h = refl
-jump_transfer JumpIfNot s i h = refl
-jump_transfer _ s i h = absurd (cc h)
-
-transfer_control : (op : Op) → is_transfer op ≡ true → is_control op ≡ true
-transfer_control Jump h = refl
-transfer_control JumpIf h = refl
-transfer_control JumpIfNot h = refl
-transfer_control Jumpr h = refl
-transfer_control _ h = absurd (cc h)
+going_transfer : (s : PacketState) (i : Instr) → jumps s i ≡ true → is_transfer i.op ≡ true
+going_transfer s i h = jump_transfer i.op (goes_jump (does_of i.op) (operand_in s i 0) h)
 
 false_or_true : (b : Bool) → (b ≡ true) ⊎ (b ≡ false)
 false_or_true true = inl refl
@@ -91,7 +86,7 @@ module _ (c : ℕ) (js : List Job) (same : Each (λ j. j.cycle ≡ c) js) (one :
       ∙ k in absurd (cc z) in
       let r = found_none (λ (i : Instr). is_return i.op) js (λ i m. is_false (is_return i.instr.op)
       (λ p. no i m (return_transfer i.instr.op p))) in
-      let j = found_none (jumps s) js (λ i m. is_false (jumps s i.instr) (λ p. no i m (jump_transfer i.instr.op s i.instr p))) in
+      let j = found_none (jumps s) js (λ i m. is_false (jumps s i.instr) (λ p. no i m (going_transfer s i.instr p))) in
       ap (λ (x : Option Instr). leads x s (instrs js) u) r ∙ ap (λ (x : Option Instr). goes_on x u) j
 
   -- a jump that is taken or not
@@ -104,11 +99,11 @@ module _ (c : ℕ) (js : List Job) (same : Each (λ j. j.cycle ≡ c) js) (one :
       ap (λ (x : Option Instr). leads x s (instrs js) u) r ∙ ⊎_elim
       (λ (t : jumps s j.instr ≡ true).
       ap (λ (x : Option Instr). goes_on x u) (found_one (jumps s) js j m t
-      (λ i n x. alone j m p i n (jump_transfer i.instr.op s i.instr x)))
+      (λ i n x. alone j m p i n (going_transfer s i.instr x)))
       ∙ sym (ap (λ (b : Bool). if b then Jumped (unwrap_or j.instr.label []) u else Went u) t))
       (λ (f : jumps s j.instr ≡ false).
       ap (λ (x : Option Instr). goes_on x u) (found_none (jumps s) js (λ i n. is_false (jumps s i.instr) (λ x.
-      let e = alone j m p i n (jump_transfer i.instr.op s i.instr x) in let z : true ≡ false = sym x ∙ ap (λ (k : Job). jumps s k.instr) e
+      let e = alone j m p i n (going_transfer s i.instr x) in let z : true ≡ false = sym x ∙ ap (λ (k : Job). jumps s k.instr) e
       ∙ f in absurd (cc z))))
       ∙ sym (ap (λ (b : Bool). if b then Jumped (unwrap_or j.instr.label []) u else Went u) f))
       (false_or_true (jumps s j.instr))
@@ -120,23 +115,16 @@ module _ (c : ℕ) (js : List Job) (same : Each (λ j. j.cycle ≡ c) js) (one :
       (found_one (λ (i : Instr). is_return i.op) js j m p (λ i n x. alone j m (return_transfer j.instr.op p) i n
       (return_transfer i.instr.op x)))
 
-  by_op : (op : Op) (j : Job) → Member j js → op ≡ j.instr.op → is_transfer op ≡ true
-      → leads (the_return (instrs js)) s (instrs js) u ≡ exit_by op (v j) j.instr.label u
-  by_op Jump j m e h = by_jump j m (ap is_transfer (sym e)) (ap is_return (sym e))
-      ∙ ap (λ (op : Op). if jumps_by op s j.instr then Jumped (unwrap_or j.instr.label []) u else Went u) (sym e)
-  by_op JumpIf j m e h =
-      by_jump j m (ap is_transfer (sym e)) (ap is_return (sym e))
-      ∙ ap (λ (op : Op). if jumps_by op s j.instr then Jumped (unwrap_or j.instr.label []) u else Went u) (sym e)
-      ∙ elim (nat_eq (v j) 0) as (λ b. (if not b then Jumped (unwrap_or j.instr.label []) u else Went u) ≡
-      (if b then Went u else Jumped (unwrap_or j.instr.label []) u)) [ true ↦ refl | false ↦ refl ]
-  by_op JumpIfNot j m e h = by_jump j m (ap is_transfer (sym e)) (ap is_return (sym e))
-      ∙ ap (λ (op : Op). if jumps_by op s j.instr then Jumped (unwrap_or j.instr.label []) u else Went u) (sym e)
-  by_op Jumpr j m e h = by_return j m (ap is_return (sym e))
-  by_op _ j m e h = absurd (cc h)
+  by_what : (does : Does) (j : Job) → Member j js → does_of j.instr.op ≡ does → (jumps_to does || returns does) ≡ true
+      → leads (the_return (instrs js)) s (instrs js) u ≡ exit_as does (v j) j.instr.label u
+  by_what (Jumps when) j m e h = by_jump j m (ap (λ (d : Does). jumps_to d || returns d) e) (ap returns e)
+      ∙ ap (λ (d : Does). if goes_by d (v j) then Jumped (unwrap_or j.instr.label []) u else Went u) e
+  by_what Returns j m e h = by_return j m (ap returns e)
+  by_what _ j m e h = absurd (cc h)
 
   pub leads_exit : leads (the_return (instrs js)) s (instrs js) u ≡ exit_of (transfer_of js) v u
   leads_exit = go (transfer_of js) refl
     where
       go : (o : Option Job) → transfer_of js ≡ o → leads (the_return (instrs js)) s (instrs js) u ≡ exit_of o v u
       go None e = by_none e
-      go (Some j) e = let f = found (λ (j : Job). is_transfer j.instr.op) js j e in by_op j.instr.op j f.0 refl f.1
+      go (Some j) e = let f = found (λ (j : Job). is_transfer j.instr.op) js j e in by_what (does_of j.instr.op) j f.0 refl f.1

@@ -13,19 +13,20 @@ use Rattle.un_isa.specs.declared.op.Op.TheVariants.{Mov, Load, Store, Call, Spil
 use Rattle.un_isa.specs.declared.reg.Reg.{Reg}
 use Rattle.un_isa.specs.declared.instr.Instr.{Instr}
 use Rattle.un_isa.specs.declared.table.Table.{Table}
+use Rattle.un_isa.specs.Does.{is_call, moves_stack, is_copy, writes_memory}
 use Rattle.un_ir.specs.declared.function.Kind.{Kind}
 use Rattle.un_ir.specs.declared.function.Kind.TheVariants.{Pred}
 use Rattle.un_isa.specs.declared.reg.TheConstants.{STACK, GENERALS, REGISTERS, FIRST_SLOT}
-use Rattle.un_packet.specs.Step.{PacketState, value_of, value_by, reg_in, operand_in, frame_place, is_call}
+use Rattle.un_packet.specs.Step.{PacketState, value_of, value_by, reg_in, operand_in, frame_place}
 use Rattle.un_simulation.specs.Simulation.{as_held, held_at}
 use Rattle.un_model.proofs.Lists.{Each, Member, each_member, each_of, each_map, member_map, member_map_of, found, none_found, pairwise_map}
 use Rattle.un_model.proofs.Lists.{pairwise_more}
-use Rattle.un_emit.proofs.Packet.{puts, given, given_by, slot, slot_by, moves_stack, AreApart, length-puts, puts_other, puts_own}
+use Rattle.un_emit.proofs.Packet.{puts, given, given_by, slot, slot_by, AreApart, length-puts, puts_other, puts_own}
 use Rattle.un_emit.proofs.Settled.{settled, the_call, CanAnswer, clobbered_by, first_result, settled_frame, settled_frame_start}
 use Rattle.un_emit.proofs.Settled.{length-settled_regs, reg_kept, reg_written, reg_result}
-use Rattle.un_emit.proofs.Timed.{Job, Temps, Stands, IsReadAt, IsPlain, numbers, is_copy, ReadsAll, Gives, Copies, IsInSlot, Deed, computes}
+use Rattle.un_emit.proofs.Timed.{Job, Temps, Stands, IsReadAt, IsPlain, numbers, ReadsAll, Gives, Copies, IsInSlot, Deed, computes}
 use Rattle.un_emit.proofs.Timed.{moves, spills, reloads, from_pred, to_pred, loads, stores, calls, shifts, leaves, rests, AreTemps, NotBoth}
-use Rattle.un_emit.proofs.Timed.{writes_memory, Together, instrs}
+use Rattle.un_emit.proofs.Timed.{Together, instrs}
 use Rattle.un_emit.proofs.Deeds.{alu_op, transfer_op, shift_op, apart_targets, unwritten}
 use Rattle.un_emit.proofs.InTime.{CallsFit, given_by_call, lands_written, has_call, clobbers_when, stands_before, never_clobbered}
 use Rattle.un_emit.proofs.InTime.{stack_unwritten}

@@ -8,19 +8,19 @@ use Rattle.std.proofs.lemmas.Bool.{cases_lt, eq-eqb}
 use Rattle.std.proofs.lemmas.Bool.Decides.{nat_tests}
 use Rattle.un_base.specs.declared.ids.NameId.{NameId}
 use Rattle.un_base.specs.declared.ids.TempId.{TempId}
-use Rattle.un_isa.specs.Facts.{is_source}
+use Rattle.un_isa.specs.Facts.{is_source, result_space as space_of_result}
 use Rattle.un_isa.specs.Operands.{is_alu}
 use Rattle.un_isa.specs.Registers.{space_of}
 use Rattle.un_isa.specs.Tables.{latency_of}
 use Rattle.un_isa.specs.declared.op.Op.{Op}
-use Rattle.un_isa.specs.declared.op.Op.TheVariants.{Imm, Mov, Add, Sub, And, Or, Xor, Addi, Andi, Ori, Mux, CmpEq, CmpGt, CmpGtu, CmpEqi}
-use Rattle.un_isa.specs.declared.op.Op.TheVariants.{CmpGti, Mpyi, Asl, Asr, Lsr, Load, Store, Call, Jump as JumpOp, JumpIf, JumpIfNot}
-use Rattle.un_isa.specs.declared.op.Op.TheVariants.{Jumpr, Spill, Reload, P2R, R2P, Enter as EnterOp, Leave as LeaveOp, Nop}
+use Rattle.un_isa.specs.declared.op.Op.TheVariants.{Mov, Load, Store, Call, Spill, Reload, P2R, R2P}
 use Rattle.un_isa.specs.declared.reg.TheConstants.{GENERALS, FIRST_SLOT}
 use Rattle.un_isa.specs.declared.reg.Reg.{Reg}
 use Rattle.un_isa.specs.declared.reg.Space.{Space}
 use Rattle.un_isa.specs.declared.reg.Space.TheVariants.{R, P, M}
 use Rattle.un_isa.specs.declared.instr.Instr.{Instr}
+use Rattle.un_isa.specs.Does.{moves_stack, is_copy}
+use Rattle.un_isa.proofs.DoesLaws.{so_holds}
 use Rattle.un_ir.specs.declared.function.Kind.{Kind}
 use Rattle.un_ir.specs.declared.function.Kind.TheVariants.{General, Pred}
 use Rattle.un_ir.specs.declared.function.SrcOp.{SrcOp}
@@ -32,7 +32,7 @@ use Rattle.un_ir.specs.declared.extended.ExtKind.TheVariants.{Body, End, Copy}
 use Rattle.un_ir.specs.declared.extended.Operand.{Operand}
 use Rattle.un_ir.specs.declared.extended.Ext.{Ext}
 use Rattle.un_ir.specs.Linear.{first_of}
-use Rattle.un_ir.specs.WellFormed.{operand_kinds, result_kind}
+use Rattle.un_ir.specs.WellFormed.{operand_kinds, kind_given, result_kind}
 use Rattle.un_ir.specs.Extended.{temp, Want, anywhere, word_in, wants_of, wants_of_op, wants_of_end, carried, IsGoodExtOp, IsGoodOperand}
 use Rattle.un_ir.specs.Extended.{IsGoodKind, IsSourceOp, HasItsResult, result_count, defined_kinds, kind_of_temp, first_read}
 use Rattle.un_model.specs.declared.model.Options.{Options}
@@ -43,13 +43,13 @@ use Rattle.un_model.specs.Instructions.{latency_by, operand_space_in, result_spa
 use Rattle.un_model.specs.Pairs.{places_from}
 use Rattle.un_model.specs.Schedules.{choice_of, value_by}
 use Rattle.un_model.specs.Solutions.{InSpace, InDomain}
+use Rattle.un_model.proofs.Transfers.{transfer_leaves}
 use Rattle.un_domains.specs.declared.domain.Domain.TheVariants.{Set}
 use Rattle.un_model.specs.Variables.{model_of, result_domain, carried as value_carried, register_domain, source_domain, register_place}
 use Rattle.un_simulation.specs.Simulation.{as_held}
 use Rattle.un_model.proofs.Lists.{Each, Member, slice_get-map, member_map}
 use Rattle.un_emit.proofs.FramePlace.{held_pred}
-use Rattle.un_emit.proofs.Packet.{moves_stack}
-use Rattle.un_emit.proofs.Timed.{Temps, IsReadAt, IsPlain, numbers, is_copy, is_transfer, ReadsAll, Gives, GivesReg, GivesResult, Copies}
+use Rattle.un_emit.proofs.Timed.{Temps, IsReadAt, IsPlain, numbers, ReadsAll, Gives, GivesReg, GivesResult, Copies}
 use Rattle.un_emit.proofs.Timed.{IsInSlot, Deed, computes, moves, spills, reloads, from_pred, to_pred, loads, stores, calls, shifts, leaves}
 use Rattle.un_model.proofs.Placed.{Placed, vars_of, issue_at, spot, spots_of}
 use Rattle.un_model.proofs.PlacedSchedules.{all, spots, range_at, spot_range, range_here, given_space, member_joined}
@@ -119,55 +119,23 @@ via_kinds ks j k e = slice_get-map space_for ks j ∙ ap (option_map space_for) 
 source_space : (op : Op) (j : ℕ) (k : Kind) → slice_get (operand_kinds op) j ≡ Some k → operand_space_in op j ≡ Some (space_for k)
 source_space Call j k e = absurd (cc e)
 source_space Reload j k e = absurd (cc e)
-source_space Imm j k e = via_kinds (operand_kinds Imm) j k e
-source_space Mov j k e = via_kinds (operand_kinds Mov) j k e
-source_space Add j k e = via_kinds (operand_kinds Add) j k e
-source_space Sub j k e = via_kinds (operand_kinds Sub) j k e
-source_space And j k e = via_kinds (operand_kinds And) j k e
-source_space Or j k e = via_kinds (operand_kinds Or) j k e
-source_space Xor j k e = via_kinds (operand_kinds Xor) j k e
-source_space Addi j k e = via_kinds (operand_kinds Addi) j k e
-source_space Andi j k e = via_kinds (operand_kinds Andi) j k e
-source_space Ori j k e = via_kinds (operand_kinds Ori) j k e
-source_space Mux j k e = via_kinds (operand_kinds Mux) j k e
-source_space CmpEq j k e = via_kinds (operand_kinds CmpEq) j k e
-source_space CmpGt j k e = via_kinds (operand_kinds CmpGt) j k e
-source_space CmpGtu j k e = via_kinds (operand_kinds CmpGtu) j k e
-source_space CmpEqi j k e = via_kinds (operand_kinds CmpEqi) j k e
-source_space CmpGti j k e = via_kinds (operand_kinds CmpGti) j k e
-source_space Mpyi j k e = via_kinds (operand_kinds Mpyi) j k e
-source_space Asl j k e = via_kinds (operand_kinds Asl) j k e
-source_space Asr j k e = via_kinds (operand_kinds Asr) j k e
-source_space Lsr j k e = via_kinds (operand_kinds Lsr) j k e
-source_space Load j k e = via_kinds (operand_kinds Load) j k e
-source_space Store j k e = via_kinds (operand_kinds Store) j k e
-source_space JumpOp j k e = via_kinds (operand_kinds JumpOp) j k e
-source_space JumpIf j k e = via_kinds (operand_kinds JumpIf) j k e
-source_space JumpIfNot j k e = via_kinds (operand_kinds JumpIfNot) j k e
-source_space Jumpr j k e = via_kinds (operand_kinds Jumpr) j k e
-source_space Spill j k e = via_kinds (operand_kinds Spill) j k e
-source_space P2R j k e = via_kinds (operand_kinds P2R) j k e
-source_space R2P j k e = via_kinds (operand_kinds R2P) j k e
-source_space EnterOp j k e = via_kinds (operand_kinds EnterOp) j k e
-source_space LeaveOp j k e = via_kinds (operand_kinds LeaveOp) j k e
-source_space Nop j k e = via_kinds (operand_kinds Nop) j k e
+source_space op j k e = via_kinds (operand_kinds op) j k e
+
+-- no result, or one in a register
+abbrev is_in_register : Option Space → Bool
+is_in_register (Some R) = true
+is_in_register (Some P) = true
+is_in_register _ = false
+
+in_register : (result : Option Space) → is_in_register result ≡ true → result ≡ Some (space_for (kind_given result))
+in_register (Some R) h = refl
+in_register (Some P) h = refl
+in_register (Some M) h = absurd (cc h)
+in_register None h = absurd (cc h)
 
 pub result_in : (op : Op) → is_alu op ≡ true → is_source op ≡ true → result_space_in op ≡ Some (space_for (result_kind op))
-result_in Load a s = absurd (cc a)
-result_in Store a s = absurd (cc a)
-result_in Call a s = absurd (cc a)
-result_in JumpOp a s = absurd (cc a)
-result_in JumpIf a s = absurd (cc a)
-result_in JumpIfNot a s = absurd (cc a)
-result_in Jumpr a s = absurd (cc a)
 result_in Spill a s = absurd (cc a)
-result_in Reload a s = absurd (cc a)
-result_in EnterOp a s = absurd (cc a)
-result_in LeaveOp a s = absurd (cc a)
-result_in Nop a s = absurd (cc a)
-result_in P2R a s = absurd (cc s)
-result_in R2P a s = absurd (cc s)
-result_in _ a s = refl
+result_in op a s = in_register (space_of_result op) (so_holds (is_alu op) (is_in_register (space_of_result op)) refl a)
 
 -- an operation of the source computes, loads, stores or calls
 pub data TextClass (op : Op) : Type 0 where
@@ -180,18 +148,7 @@ pub text_class : (op : Op) → is_source op ≡ true → TextClass op
 text_class Load s = load refl
 text_class Store s = store refl
 text_class Call s = call refl
-text_class JumpOp s = absurd (cc s)
-text_class JumpIf s = absurd (cc s)
-text_class JumpIfNot s = absurd (cc s)
-text_class Jumpr s = absurd (cc s)
-text_class Spill s = absurd (cc s)
-text_class Reload s = absurd (cc s)
-text_class P2R s = absurd (cc s)
-text_class R2P s = absurd (cc s)
-text_class EnterOp s = absurd (cc s)
-text_class LeaveOp s = absurd (cc s)
-text_class Nop s = absurd (cc s)
-text_class _ s = alu refl s
+text_class op s = alu (so_holds (is_source op) (is_alu op) refl s) s
 
 pub one_zip : {A B : Type 0} (Q : A → B → Type 0) (xs : List A) (w : B) → AllZip Q xs (w ∷ []) → (x : A) × (xs ≡ x ∷ [])
 one_zip Q [] w z = absurd z
@@ -574,26 +531,22 @@ module _ (e : Ext) (o : Options) (values : List ℕ) (h : Solved e o values) whe
 
     -- ---- terminators
 
-    transfer_op : (term : Term) (op : Op) → transfer_of term ≡ Some op → is_transfer op ≡ true
-    transfer_op Fall op q = absurd (cc q)
-    transfer_op (Jump to) op q = let k : JumpOp ≡ op = cc q in ap is_transfer (sym k)
-    transfer_op (Branch pred true to) op q = let k : JumpIf ≡ op = cc q in ap is_transfer (sym k)
-    transfer_op (Branch pred false to) op q = let k : JumpIfNot ≡ op = cc q in ap is_transfer (sym k)
-    transfer_op (Ret value) op q = let k : Jumpr ≡ op = cc q in ap is_transfer (sym k)
+    same_space : (own op : Op) (j : ℕ) → Some own ≡ Some op → operand_space_in op j ≡ operand_space_in own j
+    same_space own op j q = let k : own ≡ op = cc q in ap (λ (o : Op). operand_space_in o j) (sym k)
 
     -- a terminator asks of its operand the space of its kind
     end_space : (term : Term) (op : Op) (j : ℕ) (want : Want) → transfer_of term ≡ Some op → slice_get (wants_of_end term) j ≡ Some want
         → operand_space_in op j ≡ Some (space_for want.kind)
     end_space Fall op j want q w = absurd (cc w)
     end_space (Jump to) op j want q w = absurd (cc w)
-    end_space (Branch pred true to) op zero want q w = let k : JumpIf ≡ op = cc q in let z : anywhere Pred ≡ want = cc w in
-        ap (λ (o : Op). operand_space_in o 0) (sym k) ∙ ap (λ (x : Want). Some (space_for x.kind)) z
+    end_space (Branch pred true to) op zero want q w = let z : anywhere Pred ≡ want = cc w in
+        same_space _ op 0 q ∙ ap (λ (x : Want). Some (space_for x.kind)) z
     end_space (Branch pred true to) op (suc j) want q w = absurd (cc w)
-    end_space (Branch pred false to) op zero want q w = let k : JumpIfNot ≡ op = cc q in let z : anywhere Pred ≡ want = cc w in
-        ap (λ (o : Op). operand_space_in o 0) (sym k) ∙ ap (λ (x : Want). Some (space_for x.kind)) z
+    end_space (Branch pred false to) op zero want q w = let z : anywhere Pred ≡ want = cc w in
+        same_space _ op 0 q ∙ ap (λ (x : Want). Some (space_for x.kind)) z
     end_space (Branch pred false to) op (suc j) want q w = absurd (cc w)
-    end_space (Ret value) op zero want q w = let k : Jumpr ≡ op = cc q in let z : anywhere General ≡ want = cc w in
-        ap (λ (o : Op). operand_space_in o 0) (sym k) ∙ ap (λ (x : Want). Some (space_for x.kind)) z
+    end_space (Ret value) op zero want q w = let z : anywhere General ≡ want = cc w in
+        same_space _ op 0 q ∙ ap (λ (x : Want). Some (space_for x.kind)) z
     end_space (Ret value) op (suc j) want q w = absurd (cc w)
 
     pub deed_end : (slots : ℕ) (term : Term) (op : Op) → p.op.kind ≡ End term → (issue_at values p).active ≡ true
@@ -601,7 +554,7 @@ module _ (e : Ext) (o : Options) (values : List ℕ) (h : Solved e o values) whe
         → Deed e.table (temps_of p.block) slots (job_with values p (term_instr e.blocks term op srcs))
     deed_end slots term op k act ins q =
         let ks = keeps in
-        leaves (transfer_op term op q)
+        leaves (transfer_leaves term op q)
         (reads_all (term_instr e.blocks term op srcs) refl (fit_by op act ins
         (λ j want w. end_space term op j want q (ap (λ ws. slice_get ws j)
         (sym (ap (λ (x : ExtKind). wants_of e.table e.names e.blocks p.owner x p.op) k)) ∙ w))))

@@ -10,15 +10,16 @@ use Rattle.un_isa.specs.Operands.{is_alu}
 use Rattle.un_isa.specs.Words.{eval, address_of}
 use Rattle.un_isa.specs.declared.op.Op.{Op}
 use Rattle.un_isa.specs.Facts.{is_source}
-use Rattle.un_isa.specs.declared.op.Op.TheVariants.{Jump as JumpOp, JumpIf, JumpIfNot, Jumpr, Mov, Load, Store, Call, Spill, Reload, P2R}
+use Rattle.un_isa.specs.declared.op.Op.TheVariants.{Mov, Load, Store, Call, Spill, Reload, P2R}
 use Rattle.un_isa.specs.declared.op.Op.TheVariants.{R2P, Enter as EnterOp, Leave as LeaveOp}
 use Rattle.un_isa.specs.declared.reg.Reg.{Reg}
 use Rattle.un_isa.specs.declared.instr.Instr.{Instr}
 use Rattle.un_isa.specs.declared.outcome.CallRecord.{CallRecord}
 use Rattle.un_isa.specs.declared.start.Reply.{Reply}
+use Rattle.un_isa.specs.Does.{is_copy, is_transfer}
+use Rattle.un_isa.proofs.DoesLaws.{so_fails, transfer_alu, transfer_copy}
 use Rattle.un_ir.specs.declared.function.SrcOp.{SrcOp}
 use Rattle.un_ir.specs.declared.function.Term.{Term}
-use Rattle.un_ir.specs.declared.function.Term.TheVariants.{Fall, Jump, Branch, Ret}
 use Rattle.un_ir.specs.declared.extended.ExtKind.{ExtKind}
 use Rattle.un_ir.specs.declared.extended.ExtKind.TheVariants.{In, Out, Body, End, Copy, Enter, Leave}
 use Rattle.un_ir.specs.declared.extended.Operand.{Operand}
@@ -35,7 +36,8 @@ use Rattle.un_model.specs.Pairs.{places_from}
 use Rattle.un_model.specs.Schedules.{choice_of, value_by}
 use Rattle.un_model.specs.Variables.{model_of}
 use Rattle.un_model.proofs.Lists.{Each, Member, Places, ahead, level, behind, two_places}
-use Rattle.un_emit.proofs.Timed.{Job, is_copy}
+use Rattle.un_model.proofs.Transfers.{transfer_leaves, copy_copies}
+use Rattle.un_emit.proofs.Timed.{Job}
 use Rattle.un_emit.proofs.Settled.{first_result}
 use Rattle.un_emit.proofs.Holds.{Flows}
 use Rattle.un_emit.proofs.Effects.{is_access, address, call_of, after_job, after_by, fails, fails_by, is_empty, run_jobs, replied_world}
@@ -322,30 +324,24 @@ module _ (e : Ext) (o : Options) (values : List ℕ) (h : Solved e o values) (va
     pub computing : is_alu op ≡ true → is_copy op ≡ false → ⊥
 
   copy_other : (n : ℕ) (op : Op) → copy_of n ≡ Some op → IsOther op
-  copy_other n op q = by_test (n == 1) (n == 2) (n == 3) (n == 4) (n == 5) q
+  copy_other n op q =
+      let c = copy_copies n op q in
+      record { access = copy_access op c; computing = λ x y. let z : true ≡ false = sym c ∙ y in absurd (cc z) }
     where
-      by_same : (f : Op) → f ≡ op → IsOther f → IsOther op
-      by_same f s x = subst IsOther s x
-
-      by_test : (a b c d f : Bool) → (if a then Some Mov else (if b then Some Spill else
-          (if c then Some Reload else (if d then Some P2R else (if f then Some R2P else None))))) ≡ Some op → IsOther op
-      by_test true b c d f q = by_same Mov (cc q) (record { access = refl; computing = λ x y. absurd (cc y) })
-      by_test false true c d f q = by_same Spill (cc q) (record { access = refl; computing = λ x y. absurd (cc y) })
-      by_test false false true d f q = by_same Reload (cc q) (record { access = refl; computing = λ x y. absurd (cc y) })
-      by_test false false false true f q = by_same P2R (cc q) (record { access = refl; computing = λ x y. absurd (cc y) })
-      by_test false false false false true q = by_same R2P (cc q) (record { access = refl; computing = λ x y. absurd (cc y) })
-      by_test false false false false false q = absurd (cc q)
+      copy_access : (op : Op) → is_copy op ≡ true → is_access op ≡ false
+      copy_access Mov c = refl
+      copy_access op c = so_fails (is_copy op) (is_access op) refl c
 
   transfer_other : (term : Term) (op : Op) → transfer_of term ≡ Some op → IsOther op × (is_copy op ≡ false)
-  transfer_other Fall op q = absurd (cc q)
-  transfer_other (Jump to) op q = let s : JumpOp ≡ op = cc q in subst (λ f. IsOther f × (is_copy f ≡ false)) s
-      (record { access = refl; computing = λ x y. absurd (cc x) }, refl)
-  transfer_other (Branch pred true to) op q = let s : JumpIf ≡ op = cc q in
-      subst (λ f. IsOther f × (is_copy f ≡ false)) s (record { access = refl; computing = λ x y. absurd (cc x) }, refl)
-  transfer_other (Branch pred false to) op q = let s : JumpIfNot ≡ op = cc q in
-      subst (λ f. IsOther f × (is_copy f ≡ false)) s (record { access = refl; computing = λ x y. absurd (cc x) }, refl)
-  transfer_other (Ret value) op q = let s : Jumpr ≡ op = cc q in subst (λ f. IsOther f × (is_copy f ≡ false)) s
-      (record { access = refl; computing = λ x y. absurd (cc x) }, refl)
+  transfer_other term op q =
+      let t = transfer_leaves term op q in (
+        record { access = goes_access op t; computing = λ x y. let z : true ≡ false = sym x ∙ transfer_alu op t in absurd (cc z) },
+        transfer_copy op t,
+      )
+    where
+      goes_access : (op : Op) → is_transfer op ≡ true → is_access op ≡ false
+      goes_access Mov t = refl
+      goes_access op t = so_fails (is_transfer op) (is_access op) refl t
 
   shift_other : (f op : Op) (n : ℕ) → frame_instr f n ≡ Some op → IsOther f → is_copy f ≡ false → IsOther op × (is_copy op ≡ false)
   shift_other f op n q x c = go (n == 0) q

@@ -74,11 +74,6 @@ puts_own f v (j ∷ js) xs i r apart (inr m) e lt =
 
 -- ---- the places that an instruction writes
 
-abbrev pub moves_stack : Op → Bool
-moves_stack Enter = true
-moves_stack Leave = true
-moves_stack _ = false
-
 -- the register that an instruction writes, but for what a call writes
 abbrev pub target_by : Op → Option Reg → Option ℕ
 target_by Enter dst = Some STACK

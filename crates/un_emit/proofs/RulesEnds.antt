@@ -9,7 +9,9 @@ use Rattle.std.proofs.lemmas.Bool.{eq-eqb}
 use Rattle.std.proofs.lemmas.List.FromFn.{length-map-range_with_len}
 use Rattle.un_isa.specs.declared.instr.Instr.{Instr}
 use Rattle.un_isa.specs.declared.op.Op.{Op}
-use Rattle.un_isa.specs.declared.op.Op.TheVariants.{Jump as JumpOp, JumpIf, JumpIfNot, Jumpr}
+use Rattle.un_isa.specs.declared.op.Op.TheVariants.{Jump as JumpOp, Jumpr}
+use Rattle.un_isa.specs.Does.{is_jump, is_transfer, is_leaving}
+use Rattle.un_isa.proofs.DoesLaws.{jump_transfer}
 use Rattle.un_ir.specs.declared.function.Term.{Term}
 use Rattle.un_ir.specs.declared.function.Term.TheVariants.{Fall, Jump, Branch, Ret}
 use Rattle.un_ir.specs.declared.extended.ExtBlock.{ExtBlock}
@@ -19,7 +21,7 @@ use Rattle.un_model.specs.declared.model.Options.{Options}
 use Rattle.un_model.specs.Emission.{label_of}
 use Rattle.un_model.specs.Instructions.{transfer_of as transfer_op_of}
 use Rattle.un_packet.specs.declared.code.Packet.{Packet}
-use Rattle.un_packet.specs.CodeRules.{TransfersLast, LeadsToOneOf, is_jump, is_transfer, is_leaving, transfers, leaves}
+use Rattle.un_packet.specs.CodeRules.{TransfersLast, LeadsToOneOf, transfers, leaves}
 use Rattle.un_emit.proofs.BlockEnds.{EndJob, no_job, one_job, end_job, transfer_kind, job_label}
 use Rattle.un_emit.proofs.BlockJobs.{InRegion, IsJob, each_job}
 use Rattle.un_emit.proofs.BlockTimed.{own_jobs, own_end, here, job_op, block_timed}
@@ -34,20 +36,7 @@ use Rattle.un_emit.proofs.RulesInstrs.{end_leads}
 use Rattle.un_emit.proofs.RulesLists.{all_each, some_and}
 use Rattle.un_emit.proofs.RulesOps.{LeadsIn, there}
 use Rattle.un_model.proofs.PlacedSchedules.{all, get_range}
-use Rattle.un_emit.proofs.Timed.{Job, Timed, instrs, issues_at, jobs_at, or_rest, packet_jobs, is_transfer as transfers_by, together}
-
-same_transfer : (op : Op) → is_transfer op ≡ true → transfers_by op ≡ true
-same_transfer JumpOp q = refl
-same_transfer JumpIf q = refl
-same_transfer JumpIfNot q = refl
-same_transfer Jumpr q = refl
-same_transfer _ q = absurd (cc q)
-
-jump_transfer : (op : Op) → is_jump op ≡ true → transfers_by op ≡ true
-jump_transfer JumpOp q = refl
-jump_transfer JumpIf q = refl
-jump_transfer JumpIfNot q = refl
-jump_transfer _ q = absurd (cc q)
+use Rattle.un_emit.proofs.Timed.{Job, Timed, instrs, issues_at, jobs_at, or_rest, packet_jobs, together}
 
 -- the labels are those of the blocks
 abbrev pub AreLabels : List ExtBlock → List (List ℕ) → Type 0
@@ -110,8 +99,8 @@ module _ (e : Ext) (o : Options) (values : List ℕ) (h : Solved e o values) (k 
   pub timed : Timed e.table (temps_of e o values h k) (words e o values h) the_end jobs
   timed = block_timed e o values h (words e o values h) (placing e o values h) k block r at
 
-  last_cycle : (j : Job) → Member j jobs → transfers_by j.instr.op ≡ true → j.cycle + 1 ≡ the_end
-  last_cycle j m t = let z = timed in each_member (λ (x : Job). transfers_by x.instr.op ≡ true → x.cycle + 1 ≡ the_end) jobs j z.last m t
+  last_cycle : (j : Job) → Member j jobs → is_transfer j.instr.op ≡ true → j.cycle + 1 ≡ the_end
+  last_cycle j m t = let z = timed in each_member (λ (x : Job). is_transfer x.instr.op ≡ true → x.cycle + 1 ≡ the_end) jobs j z.last m t
 
   -- no packet before the last one has a transfer
   stays : (c : ℕ) → 1 ≤ c → c + 1 < the_end → transfers (packet_of jobs c) ≡ false
@@ -121,7 +110,7 @@ module _ (e : Ext) (o : Options) (values : List ℕ) (h : Solved e o values) (k 
       let Stays : Job → Type 0 = λ j. is_transfer j.instr.op ≡ false in
       let Here : Job → Type 0 = λ j. j.cycle ≡ c → Stays j in
       let inner : (j : Job) → Member j jobs → Here j = λ j m q. is_false (is_transfer j.instr.op) (λ t.
-      let z = last_cycle j m (same_transfer j.instr.op t) in absurd (omega (arith, z, q, lt))) in
+      let z = last_cycle j m t in absurd (omega (arith, z, q, lt))) in
       let here = each_packet Here jobs c (each_of Here jobs inner) (λ q. refl) in
       let all = each_of Stays js (λ j m. each_member Here js j here m (each_member (λ (j : Job). j.cycle ≡ c) js j w.cycle m)) in
       let stay = each_map (λ (i : Instr). is_transfer i.op ≡ false) (λ (j : Job). j.instr) js all in
@@ -166,7 +155,7 @@ module _ (e : Ext) (o : Options) (values : List ℕ) (h : Solved e o values) (k 
       go (i ∷ is) n = n
 
   -- a job that leaves is in the last packet
-  leaves_last : (j : Job) → Member j jobs → transfers_by j.instr.op ≡ true → is_leaving j.instr.op ≡ true → LastLeaves packets
+  leaves_last : (j : Job) → Member j jobs → is_transfer j.instr.op ≡ true → is_leaving j.instr.op ≡ true → LastLeaves packets
   leaves_last j m t leaving =
       let z = timed in
       let js = packet_jobs jobs j.cycle in
@@ -192,6 +181,6 @@ module _ (e : Ext) (o : Options) (values : List ℕ) (h : Solved e o values) (k 
       by_end : EndJob e o values h k block r at → LastLeaves packets
       by_end (no_job none q) = absurd (falls_not e.blocks k (let x = ending_of block.ops in x.term) s leads q)
       by_end (one_job p j term mp g tr kp top q) =
-          let f = found (λ (j : Job). transfers_by j.instr.op) jobs j tr in
+          let f = found (λ (j : Job). is_transfer j.instr.op) jobs j tr in
           let l = subst (LeadsIn e.blocks k) (ap (λ (x : Ending). x.term) q) leads in
           leaves_last j f.0 f.1 (last_leaves e.blocks k term j.instr.op s l top)

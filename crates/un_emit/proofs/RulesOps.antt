@@ -4,16 +4,20 @@ use Rattle.std.proofs.Common.{sym, ap, ◌∙◌, subst, arith, All, le→leb}
 use Rattle.std.specs.Prelude.{Option, Some, None, slice_get, ◌==◌, if◌then◌else◌, IfSome}
 use Rattle.std.specs.Option.{option_map}
 use Rattle.un_base.specs.declared.ids.BlockId.{BlockId}
-use Rattle.un_isa.specs.Facts.{is_source, operand_spaces, result_space}
+use Rattle.un_isa.specs.Facts.{does_of, is_source, operand_spaces, result_space}
 use Rattle.un_isa.specs.Operands.{HasLiteral}
 use Rattle.un_isa.specs.Registers.{space_of}
 use Rattle.un_isa.specs.declared.op.Op.{Op}
-use Rattle.un_isa.specs.declared.op.Op.TheVariants.{Mov, Load, Store, Call, Jump as JumpOp, JumpIf, JumpIfNot, Jumpr, Spill, Reload, P2R}
-use Rattle.un_isa.specs.declared.op.Op.TheVariants.{R2P, Enter, Leave}
+use Rattle.un_isa.specs.declared.op.Op.TheVariants.{Mov, Load, Store, Call, Spill, Reload, P2R}
+use Rattle.un_isa.specs.declared.op.Op.TheVariants.{R2P, Enter, Leave, Nop}
+use Rattle.un_isa.specs.declared.does.Does.{Does}
+use Rattle.un_isa.specs.declared.does.Does.TheVariants.{Calls, Jumps}
 use Rattle.un_isa.specs.declared.reg.Reg.{Reg}
 use Rattle.un_isa.specs.declared.reg.Space.{Space}
 use Rattle.un_isa.specs.declared.reg.TheConstants.{STACK, FIRST_SLOT}
 use Rattle.un_isa.specs.declared.table.Table.{Table}
+use Rattle.un_isa.specs.Does.{calls, jumps, is_jump}
+use Rattle.un_isa.proofs.DoesLaws.{so_fails}
 use Rattle.un_ir.specs.declared.function.SrcOp.{SrcOp}
 use Rattle.un_ir.specs.declared.function.Term.{Term}
 use Rattle.un_ir.specs.declared.function.Term.TheVariants.{Fall, Jump, Branch, Ret}
@@ -26,7 +30,7 @@ use Rattle.un_ir.specs.Live.{targets_of}
 use Rattle.un_ir.specs.WellFormed.{IsName, NamesItsCallee}
 use Rattle.un_model.specs.Emission.{slot_offset, label_at, label_of}
 use Rattle.un_model.specs.Instructions.{transfer_of, copy_of, operand_space_in, result_space_in}
-use Rattle.un_packet.specs.CodeRules.{ReadsItsSpaces, WritesItsSpace, HasItsNumber, HasItsLabel, HasItsBase, IsSomeName, minus}
+use Rattle.un_packet.specs.CodeRules.{ReadsItsSpaces, WritesItsSpace, HasItsNumber, HasItsLabel, HasLabelOf, HasItsBase, IsSomeName, minus}
 use Rattle.un_emit.proofs.BlockEdges.{EndsBy, falls, ends}
 use Rattle.un_model.proofs.Lists.{Each, Member, each_member, get_below}
 use Rattle.un_emit.proofs.RulesFrame.{IsLow}
@@ -92,13 +96,16 @@ source_number frame Enter n s h = absurd (cc s)
 source_number frame Leave n s h = absurd (cc s)
 source_number frame _ n s h = h
 
+label_by : (does : Does) (callee : Option (List ℕ)) → calls does ≡ false → jumps does ≡ false → callee ≡ None → HasLabelOf does callee
+label_by Calls callee c j h = absurd (cc c)
+label_by (Jumps when) callee c j h = absurd (cc j)
+label_by _ callee c j h = h
+
 pub source_label : (op : Op) (callee : Option (List ℕ)) → is_source op ≡ true → NamesItsCallee op callee → HasItsLabel op callee
 source_label Call None s h = absurd h
 source_label Call (Some name) s h = h
-source_label JumpOp callee s h = absurd (cc s)
-source_label JumpIf callee s h = absurd (cc s)
-source_label JumpIfNot callee s h = absurd (cc s)
-source_label _ callee s h = h
+source_label Nop callee s h = h
+source_label op callee s h = label_by (does_of op) callee refl (so_fails (is_source op) (is_jump op) refl s) h
 
 -- ---- copies
 
@@ -161,31 +168,35 @@ pub record EndFacts (frame : ℕ) (blocks : List ExtBlock) (b : ℕ) (term : Ter
   pub literal : HasItsNumber frame op (pos 0)
   pub label : AreNamed blocks → LeadsIn blocks b term → HasItsLabel op (label_of blocks term)
 
+same_end : (frame : ℕ) (blocks : List ExtBlock) (b : ℕ) (term : Term) (own op : Op) → Some own ≡ Some op
+    → EndFacts frame blocks b term own → EndFacts frame blocks b term op
+same_end frame blocks b term own op q facts = let k : own ≡ op = cc q in subst (EndFacts frame blocks b term) k facts
+
 pub end_facts : (frame : ℕ) (blocks : List ExtBlock) (b : ℕ) (term : Term) (op : Op) → transfer_of term ≡ Some op
     → EndFacts frame blocks b term op
 end_facts frame blocks b Fall op q = absurd (cc q)
-end_facts frame blocks b (Jump to) op q = let k : JumpOp ≡ op = cc q in subst (EndFacts frame blocks b _) k (record {
+end_facts frame blocks b (Jump to) op q = same_end frame blocks b (Jump to) _ op q (record {
   count = refl;
   plain = λ z. absurd (cc z);
   result = refl;
   literal = refl;
   label = λ named l. label_there blocks to named (l 0 0 (omega arith)).1;
 })
-end_facts frame blocks b (Branch pred true to) op q = let k : JumpIf ≡ op = cc q in subst (EndFacts frame blocks b _) k (record {
+end_facts frame blocks b (Branch pred true to) op q = same_end frame blocks b (Branch pred true to) _ op q (record {
   count = refl;
   plain = λ z. absurd (cc z);
   result = refl;
   literal = refl;
   label = λ named l. label_there blocks to named (l 1 0 (omega arith)).1;
 })
-end_facts frame blocks b (Branch pred false to) op q = let k : JumpIfNot ≡ op = cc q in subst (EndFacts frame blocks b _) k (record {
+end_facts frame blocks b (Branch pred false to) op q = same_end frame blocks b (Branch pred false to) _ op q (record {
   count = refl;
   plain = λ z. absurd (cc z);
   result = refl;
   literal = refl;
   label = λ named l. label_there blocks to named (l 1 0 (omega arith)).1;
 })
-end_facts frame blocks b (Ret value) op q = let k : Jumpr ≡ op = cc q in subst (EndFacts frame blocks b _) k (record {
+end_facts frame blocks b (Ret value) op q = same_end frame blocks b (Ret value) _ op q (record {
   count = refl;
   plain = λ z. absurd (cc z);
   result = refl;

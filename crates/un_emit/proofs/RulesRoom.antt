@@ -5,18 +5,15 @@ use Rattle.std.specs.Prelude.{Option, Some, None, slice_get, unwrap_or, nat_eq, 
 use Rattle.std.specs.Bool.{OnTrue}
 use Rattle.std.specs.List.{list_any}
 use Rattle.std.proofs.lemmas.Bool.{and_from, eq-eqb}
-use Rattle.un_isa.specs.Facts.{class_of, is_source}
-use Rattle.un_isa.specs.Fit.{IsFit, AreFitNeeds}
+use Rattle.un_isa.specs.Facts.{class_of}
 use Rattle.un_isa.specs.Hexagon.{needs_by as least_needs}
 use Rattle.un_isa.specs.PacketCounts.{FitPacket}
-use Rattle.un_isa.specs.Tables.{number_of}
 use Rattle.un_isa.specs.declared.instr.Instr.{Instr}
 use Rattle.un_isa.specs.declared.op.Op.{Op}
-use Rattle.un_isa.specs.declared.op.Op.TheVariants.{Jump as JumpOp, JumpIf, JumpIfNot, Jumpr, Enter as EnterOp, Leave as LeaveOp, Nop}
+use Rattle.un_isa.specs.declared.op.Op.TheVariants.{Enter as EnterOp, Leave as LeaveOp, Nop}
 use Rattle.un_isa.specs.declared.table.Needs.{Needs}
-use Rattle.un_isa.specs.declared.table.Table.{Table}
-use Rattle.un_ir.specs.declared.function.Term.{Term}
-use Rattle.un_ir.specs.declared.function.Term.TheVariants.{Fall, Jump, Branch, Ret}
+use Rattle.un_isa.specs.Does.{is_nop}
+use Rattle.un_isa.proofs.DoesLaws.{source_nop, transfer_nop, copy_nop}
 use Rattle.un_ir.specs.declared.extended.ExtBlock.{ExtBlock}
 use Rattle.un_ir.specs.declared.extended.ExtKind.{ExtKind}
 use Rattle.un_ir.specs.declared.extended.ExtKind.TheVariants.{In, Out, Body, End, Copy, Enter, Leave}
@@ -25,14 +22,15 @@ use Rattle.un_ir.specs.declared.extended.Ext.{Ext}
 use Rattle.un_ir.specs.Extended.{IsGoodKind}
 use Rattle.un_model.specs.declared.model.Options.{Options}
 use Rattle.un_model.specs.declared.schedule.Issue.{Issue}
+use Rattle.un_model.proofs.Transfers.{transfer_leaves, copy_copies, needs_at_least}
 use Rattle.un_isa.specs.declared.packet_counts.Resource.{Resource}
 use Rattle.un_isa.specs.declared.packet_counts.Resource.TheVariants.{Instructions, Memory, Stores, MultiplyOrControl, Control}
-use Rattle.un_model.specs.Instructions.{needs_by, no_needs, instruction_of, transfer_of, frame_instr}
+use Rattle.un_model.specs.Instructions.{instruction_of, frame_instr}
 use Rattle.un_model.specs.Schedules.{issues_of, value_by}
 use Rattle.un_model.specs.Solutions.{HasRoom, share_of, taken, issues_at as issues_in}
 use Rattle.un_isa.specs.PacketCounts.{places_of}
 use Rattle.un_model.specs.Variables.{model_of}
-use Rattle.un_packet.specs.CodeRules.{needs_of, is_nop}
+use Rattle.un_packet.specs.CodeRules.{needs_of}
 use Rattle.un_emit.proofs.BlockJobs.{InRegion, job_is, each_job}
 use Rattle.un_emit.proofs.BlockTimed.{own_jobs, its_block, here, job_op}
 use Rattle.un_emit.proofs.Jobs.{job_with, job_by, instr_at, jobs_of}
@@ -41,40 +39,12 @@ use Rattle.un_model.proofs.Placed.{Placed, vars_of, issue_at, issues_are, region
 use Rattle.un_emit.proofs.Places.{words, placing}
 use Rattle.un_model.proofs.Readings.{Solved, placed_good}
 use Rattle.un_emit.proofs.RulesLists.{total, sum_total, total_map, total_append}
-use Rattle.un_emit.proofs.RulesOps.{IsCopyOp, mov, spill, reload, p2r, r2p, copy_is}
 use Rattle.un_model.proofs.PlacedSchedules.{all}
 use Rattle.un_emit.proofs.Timed.{Job, instrs, issues_at, jobs_at, or_rest, packet_jobs, rest_job}
 
 -- ---- needs
 
--- a fit table asks at least what Hexagon asks
-least : (t : Table) (op : Op) → IsFit t → AreFitNeeds (least_needs (class_of op)) (needs_by t (Some op))
-least t op fit = go (slice_get t.uses (number_of op)) (fit.needs op)
-  where
-    go : (x : Option Needs) → IsSomeAnd x (AreFitNeeds (least_needs (class_of op)))
-        → AreFitNeeds (least_needs (class_of op)) (unwrap_or x no_needs)
-    go None h = absurd h
-    go (Some n) h = h
-
 -- ---- no operation is a nop
-
-source_busy : (op : Op) → is_source op ≡ true → is_nop op ≡ false
-source_busy Nop s = absurd (cc s)
-source_busy _ s = refl
-
-transfer_busy : (term : Term) (op : Op) → transfer_of term ≡ Some op → is_nop op ≡ false
-transfer_busy Fall op q = absurd (cc q)
-transfer_busy (Jump to) op q = let k : JumpOp ≡ op = cc q in ap is_nop (sym k)
-transfer_busy (Branch pred true to) op q = let k : JumpIf ≡ op = cc q in ap is_nop (sym k)
-transfer_busy (Branch pred false to) op q = let k : JumpIfNot ≡ op = cc q in ap is_nop (sym k)
-transfer_busy (Ret value) op q = let k : Jumpr ≡ op = cc q in ap is_nop (sym k)
-
-copy_busy : (op : Op) → IsCopyOp op → is_nop op ≡ false
-copy_busy op (mov q) = ap is_nop q
-copy_busy op (spill q) = ap is_nop q
-copy_busy op (reload q) = ap is_nop q
-copy_busy op (p2r q) = ap is_nop q
-copy_busy op (r2p q) = ap is_nop q
 
 frame_busy : (x op : Op) (n : ℕ) → is_nop x ≡ false → frame_instr x n ≡ Some op → is_nop op ≡ false
 frame_busy x op n f q = go (n == 0) q
@@ -86,9 +56,9 @@ frame_busy x op n f q = go (n == 0) q
 busy : (k : ExtKind) (n : ℕ) (op : Op) (x : ExtOp) → IsGoodKind k x → instruction_of k n ≡ Some op → is_nop op ≡ false
 busy In n op x g q = absurd (cc q)
 busy Out n op x g q = absurd (cc q)
-busy (Body so) n op x g q = let s : so.op ≡ op = cc q in ap is_nop (sym s) ∙ source_busy so.op g.op
-busy (End term) n op x g q = transfer_busy term op q
-busy (Copy node) n op x g q = copy_busy op (copy_is n op q)
+busy (Body so) n op x g q = let s : so.op ≡ op = cc q in ap is_nop (sym s) ∙ source_nop so.op g.op
+busy (End term) n op x g q = transfer_nop op (transfer_leaves term op q)
+busy (Copy node) n op x g q = copy_nop op (copy_copies n op q)
 busy Enter n op x g q = frame_busy EnterOp op n refl q
 busy Leave n op x g q = frame_busy LeaveOp op n refl q
 
@@ -200,10 +170,10 @@ module _ (e : Ext) (o : Options) (values : List ℕ) (h : Solved e o values) (k 
     instructions =
         let l = needs_length (packet_jobs jobs c) in
         let z = fits (λ op. 1) Instructions (λ op. omega arith) c (omega arith) in omega (arith, l, z);
-    mem = needed (λ (n : Needs). n.mem) Memory c (λ op. let x = least e.table op h.fit in let y = x.mem in y.0) (omega arith);
-    store = needed (λ (n : Needs). n.store) Stores c (λ op. let x = least e.table op h.fit in let y = x.store in y.0) (omega arith);
-    xc = needed (λ (n : Needs). n.xc) MultiplyOrControl c (λ op. let x = least e.table op h.fit in let y = x.xc in y.0) (omega arith);
-    control = needed (λ (n : Needs). n.control) Control c (λ op. let x = least e.table op h.fit in let y = x.control in y.0) (omega arith);
+    mem = needed (λ (n : Needs). n.mem) Memory c (λ op. let x = needs_at_least e.table h.fit op in let y = x.mem in y.0) (omega arith);
+    store = needed (λ (n : Needs). n.store) Stores c (λ op. let x = needs_at_least e.table h.fit op in let y = x.store in y.0) (omega arith);
+    xc = needed (λ (n : Needs). n.xc) MultiplyOrControl c (λ op. let x = needs_at_least e.table h.fit op in let y = x.xc in y.0) (omega arith);
+    control = needed (λ (n : Needs). n.control) Control c (λ op. let x = needs_at_least e.table h.fit op in let y = x.control in y.0) (omega arith);
   }
 
   none_idle : Each IsBusy jobs

@@ -14,12 +14,13 @@ use Rattle.un_isa.specs.declared.op.Op.TheVariants.{Call, Enter, Leave}
 use Rattle.un_isa.specs.declared.reg.Reg.{Reg}
 use Rattle.un_isa.specs.declared.reg.TheConstants.{STACK, REGISTERS}
 use Rattle.un_isa.specs.declared.table.Table.{Table}
+use Rattle.un_isa.specs.Does.{moves_stack, is_control}
 use Rattle.un_packet.specs.CodeRules.{number, written, written_by}
 use Rattle.un_emit.proofs.Deeds.{writes, apart_targets}
 use Rattle.un_model.proofs.Lists.{Each, Pairwise, Member, each_member, each_of, pairwise_map, pairwise_more, pairwise_of_map}
-use Rattle.un_emit.proofs.Packet.{moves_stack, target, target_by}
+use Rattle.un_emit.proofs.Packet.{target, target_by}
 use Rattle.un_emit.proofs.RulesLists.{rising_apart, each_pass, all_pairwise, pairwise_flat, pairwise_both}
-use Rattle.un_emit.proofs.Timed.{Job, Temps, Stands, Gives, Deed, AreTemps, NotBoth, GiveApart, Clobbers, is_control, Together, instrs}
+use Rattle.un_emit.proofs.Timed.{Job, Temps, Stands, Gives, Deed, AreTemps, NotBoth, GiveApart, Clobbers, Together, instrs}
 
 -- ---- what a call writes
 

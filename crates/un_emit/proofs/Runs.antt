@@ -1,7 +1,7 @@
 -- The packets of a solution do what the extended function does: an induction over the blocks entered.
 use Rattle.std.proofs.Common.{ℕ, zero, suc, ◌≡◌, ◌<◌, ◌≤◌, ◌+◌, ◌-◌, ◌%◌, ◌^◌, Bool, true, false, List, [], ◌∷◌, length, map, drop, get_or}
 use Rattle.std.proofs.Common.{inl, inr, refl, sym, ap, ◌∙◌, subst, arith, Contains}
-use Rattle.std.specs.Prelude.{Option, Some, None, IfSome, slice_get, slice_index, unwrap_or, nat_eq, if◌then◌else◌}
+use Rattle.std.specs.Prelude.{Option, Some, None, IfSome, slice_get, slice_index, unwrap_or, nat_eq, not, if◌then◌else◌}
 use Rattle.std.specs.Option.{option_map}
 use Rattle.std.specs.List.{range_with_len, AllZip}
 use Rattle.un_isa.specs.Tables.{in_mask}
@@ -17,7 +17,7 @@ use Rattle.un_base.specs.declared.ids.TempId.{TempId}
 use Rattle.un_base.specs.declared.ids.VarId.{VarId}
 use Rattle.un_isa.specs.Registers.{callee_saved}
 use Rattle.un_isa.specs.declared.op.Op.{Op}
-use Rattle.un_isa.specs.declared.op.Op.TheVariants.{Call, Jump as JumpOp, JumpIf, JumpIfNot, Jumpr}
+use Rattle.un_isa.specs.declared.op.Op.TheVariants.{Call}
 use Rattle.un_isa.specs.declared.outcome.CallRecord.{CallRecord}
 use Rattle.un_isa.specs.declared.reg.TheConstants.{STACK, REGISTERS}
 use Rattle.un_ir.specs.Live.{targets_of}
@@ -462,6 +462,11 @@ module _ (e : Ext) (o : Options) (values : List ℕ) (h : Solved e o values) whe
             op_is : (op : Op) → Some op ≡ Some j.instr.op → j.instr.op ≡ op
             op_is op q = let z : op ≡ j.instr.op = cc q in sym z
 
+            -- a choice by what is not so
+            swapped : (b : Bool) (x y : PacketStep) → (if not b then x else y) ≡ (if b then y else x)
+            swapped true x y = refl
+            swapped false x y = refl
+
             exit_is : (op : Op) → j.instr.op ≡ op → exit_of (transfer_of x.jobs) (first_read x.val) u ≡ exit_by op
                 (slice_index (map (value_of (let q = after in q.values)) p.op.operands) 0) (label_of e.blocks term) u
             exit_is op q = f ∙ ap (λ (z : Op). exit_by z (first_read x.val j) j.instr.label u) q
@@ -491,42 +496,47 @@ module _ (e : Ext) (o : Options) (values : List ℕ) (h : Solved e o values) whe
             branching_not true c e1 e2 = jumping c (unwrap_or (option_map (λ (b : ExtBlock). b.label) (slice_get e.blocks c)) []) e2
                 (label_leads c e2)
 
+            exit_term : (t : Term) (op : Op) → term ≡ t → j.instr.op ≡ op → exit_of (transfer_of x.jobs) (first_read x.val) u
+                ≡ exit_by op (slice_index read 0) (label_of e.blocks t) u
+            exit_term t op q is = exit_is op is ∙ ap (λ (t : Term). exit_by op (slice_index read 0) (label_of e.blocks t) u) q
+
             by_term : (t : Term) → term ≡ t → Good (suc n) k taken w s
             by_term Fall q = let z : None ≡ Some j.instr.op = ap transfer_op_of (sym q) ∙ tj in absurd (cc z)
             by_term (Jump to) q =
-                let op = op_is JumpOp (ap transfer_op_of (sym q) ∙ tj) in
+                let op = op_is _ (ap transfer_op_of (sym q) ∙ tj) in
                 let edge = to_term (Jump to) q to.0 (0, omega arith, refl) in
                 finish (Jumped (unwrap_or (option_map (λ (b : ExtBlock). b.label) (slice_get e.blocks to.0)) []) u) (go_to to.0)
-                (exit_is JumpOp op ∙ ap (λ (t : Term). exit_by JumpOp (slice_index read 0) (label_of e.blocks t) u) q)
+                (exit_term (Jump to) _ q op)
                 (end_is p (Jump to) (ended (Jump to) q) (go_to to.0) refl)
                 (jumping to.0 (unwrap_or (option_map (λ (b : ExtBlock). b.label) (slice_get e.blocks to.0)) []) edge
                 (label_leads to.0 edge))
             by_term (Branch pred true to) q =
-                let op = op_is JumpIf (ap transfer_op_of (sym q) ∙ tj) in
+                let op = op_is _ (ap transfer_op_of (sym q) ∙ tj) in
                 let e1 = to_term (Branch pred true to) q (k + 1) (0, omega arith, refl) in
                 let e2 = to_term (Branch pred true to) q to.0 (1, omega arith, refl) in
                 let b = nat_eq (slice_index read 0) 0 in
                 finish (if b then Went u else Jumped (unwrap_or (option_map (λ (b : ExtBlock). b.label) (slice_get e.blocks to.0)) []) u)
                 (if b then go_to (k + 1) else go_to to.0)
-                (exit_is JumpIf op ∙ ap (λ (t : Term). exit_by JumpIf (slice_index read 0) (label_of e.blocks t) u) q)
+                (exit_term (Branch pred true to) _ q op
+                ∙ swapped b (Jumped (unwrap_or (option_map (λ (b : ExtBlock). b.label) (slice_get e.blocks to.0)) []) u) (Went u))
                 (end_is p (Branch pred true to) (ended (Branch pred true to) q) (if b then go_to (k + 1) else go_to to.0) refl)
                 (branching b to.0 e1 e2)
             by_term (Branch pred false to) q =
-                let op = op_is JumpIfNot (ap transfer_op_of (sym q) ∙ tj) in
+                let op = op_is _ (ap transfer_op_of (sym q) ∙ tj) in
                 let e1 = to_term (Branch pred false to) q (k + 1) (0, omega arith, refl) in
                 let e2 = to_term (Branch pred false to) q to.0 (1, omega arith, refl) in
                 let b = nat_eq (slice_index read 0) 0 in
                 finish (if b then Jumped (unwrap_or (option_map (λ (b : ExtBlock). b.label) (slice_get e.blocks to.0)) []) u else Went u)
                 (if b then go_to to.0 else go_to (k + 1))
-                (exit_is JumpIfNot op ∙ ap (λ (t : Term). exit_by JumpIfNot (slice_index read 0) (label_of e.blocks t) u) q)
+                (exit_term (Branch pred false to) _ q op)
                 (end_is p (Branch pred false to) (ended (Branch pred false to) q) (if b then go_to to.0 else go_to (k + 1)) refl)
                 (branching_not b to.0 e1 e2)
             by_term (Ret value) q =
-                let op = op_is Jumpr (ap transfer_op_of (sym q) ∙ tj) in
+                let op = op_is _ (ap transfer_op_of (sym q) ∙ tj) in
                 finish (Stopped (ReturnedTo (slice_index u.regs 0) (slice_index read 0)) u)
                 (leave k (Ret value) read over (let q = after in q.world)
                 (hand_over e.blocks block over (let q = after in q.world) (enter e.blocks n)))
-                (exit_is Jumpr op)
+                (exit_term (Ret value) _ q op)
                 (end_is p (Ret value) (ended (Ret value) q) (leave k (Ret value) read over (let q = after in q.world)
                 (hand_over e.blocks block over (let q = after in q.world) (enter e.blocks n))) refl)
                 (again value (returning value (slice_index read 0) (ap (λ (z : Ending). z.term) (ended (Ret value) q)) (slice_index read 0)

@@ -8,7 +8,8 @@ use Rattle.un_isa.specs.declared.op.Op.TheVariants.{Call}
 use Rattle.un_isa.specs.declared.instr.Instr.{Instr}
 use Rattle.un_isa.specs.declared.table.Table.{Table}
 use Rattle.un_isa.specs.declared.start.Reply.{Reply}
-use Rattle.un_packet.specs.Step.{PacketState, Stopped, Trapped, after, answered, record_of, issue_cycle, is_call, is_return, regs_after}
+use Rattle.un_isa.specs.Does.{is_call, is_return}
+use Rattle.un_packet.specs.Step.{PacketState, Stopped, Trapped, after, answered, record_of, issue_cycle, regs_after}
 use Rattle.un_packet.specs.Step.{ready_after, traps, packet_step, with_call, leads, operand_in, replied, call_ready}
 use Rattle.un_model.proofs.Lists.{Each, Member}
 use Rattle.un_emit.proofs.Packet.{puts, target, given, slot, AreApart, length-puts, puts_other, puts_own, regs_are_put, ready_is_put}

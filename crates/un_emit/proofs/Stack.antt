@@ -4,7 +4,6 @@ use Rattle.std.proofs.Common.{not, List, [], ◌∷◌, ◌⊎◌, inl, inr, ⊎
 use Rattle.un_base.specs.declared.ids.VarId.{VarId}
 use Rattle.un_model.specs.Variables.{var_at, var_count, ops_count}
 use Rattle.un_emit.proofs.Exits.{is_false}
-use Rattle.un_emit.proofs.Packet.{moves_stack}
 use Rattle.un_emit.proofs.Holds.{Stacks, uses_frame}
 use Rattle.un_model.proofs.OpDomains.{flag_sits}
 use Rattle.un_emit.proofs.BlockTimed.{own_end, block_timed, shift_kind, fold_with, once, flag_set, frame_apart, has_job}
@@ -16,6 +15,7 @@ use Rattle.un_isa.specs.Words.{address_of, word_of, sum_of}
 use Rattle.un_isa.specs.declared.op.Op.{Op}
 use Rattle.un_isa.specs.declared.op.Op.TheVariants.{Nop, Spill, Reload, Enter as EnterOp, Leave as LeaveOp}
 use Rattle.un_isa.specs.declared.instr.Instr.{Instr}
+use Rattle.un_isa.specs.Does.{moves_stack}
 use Rattle.un_ir.specs.declared.extended.ExtKind.{ExtKind}
 use Rattle.un_ir.specs.declared.extended.ExtKind.TheVariants.{In, Out, Enter, Leave}
 use Rattle.un_ir.specs.declared.extended.ExtOp.{ExtOp}

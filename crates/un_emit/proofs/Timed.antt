@@ -8,16 +8,16 @@ use Rattle.std.proofs.lemmas.Bool.{cases_eq, eq-eqb}
 use Rattle.un_isa.specs.Tables.{latency_of, in_mask}
 use Rattle.un_isa.specs.Operands.{is_alu}
 use Rattle.un_isa.specs.declared.op.Op.{Op}
-use Rattle.un_isa.specs.declared.op.Op.TheVariants.{Mov, Load, Store, Call, Jump, JumpIf, JumpIfNot, Jumpr, Spill, Reload, P2R, R2P, Nop}
+use Rattle.un_isa.specs.declared.op.Op.TheVariants.{Mov, Load, Store, Call, Spill, Reload, P2R, R2P, Nop}
 use Rattle.un_isa.specs.declared.reg.Reg.{Reg}
 use Rattle.un_isa.specs.declared.instr.Instr.{Instr}
 use Rattle.un_isa.specs.declared.table.Table.{Table}
+use Rattle.un_isa.specs.Does.{is_transfer, is_control, is_copy, writes_memory, moves_stack}
 use Rattle.un_ir.specs.declared.function.Kind.{Kind}
 use Rattle.un_ir.specs.declared.function.Kind.TheVariants.{Pred}
 use Rattle.un_isa.specs.declared.reg.TheConstants.{STACK, GENERALS, FIRST_SLOT}
 use Rattle.un_simulation.specs.Simulation.{as_held}
 use Rattle.un_model.proofs.Lists.{Each, Pairwise, Member, each_member, each_filter, each_passes, each_more, pairwise_filter, member_filter}
-use Rattle.un_emit.proofs.Packet.{moves_stack}
 
 -- an active operation that is an instruction: its cycle, the temporaries that it reads in order, and the one that it gives
 pub record Job : Type 0 where
@@ -54,22 +54,6 @@ IsPlain T x = (v : ℕ) → as_held (T.kind x) (T.place x) v ≡ v
 
 abbrev pub numbers : List Reg → List ℕ
 numbers rs = map (λ (r : Reg). r.0) rs
-
--- an operation that gives its result the value that it reads
-abbrev pub is_copy : Op → Bool
-is_copy Mov = true
-is_copy Spill = true
-is_copy Reload = true
-is_copy P2R = true
-is_copy R2P = true
-is_copy _ = false
-
-abbrev pub is_transfer : Op → Bool
-is_transfer Jump = true
-is_transfer JumpIf = true
-is_transfer JumpIfNot = true
-is_transfer Jumpr = true
-is_transfer _ = false
 
 -- the instruction's operands are the registers of the temporaries that it reads
 pub record ReadsAll (T : Temps) (j : Job) : Type 0 where
@@ -147,20 +131,6 @@ NotBoth test i j = i.cycle ≡ j.cycle → test i.instr.op ≡ true → test j.i
 
 abbrev pub GiveApart : Job → Job → Type 0
 GiveApart i j = (x : ℕ) → i.gives ≡ Some x → j.gives ≢ Some x
-
--- an instruction that writes memory or the frame
-abbrev pub writes_memory : Op → Bool
-writes_memory Store = true
-writes_memory Spill = true
-writes_memory _ = false
-
-abbrev pub is_control : Op → Bool
-is_control Call = true
-is_control Jump = true
-is_control JumpIf = true
-is_control JumpIfNot = true
-is_control Jumpr = true
-is_control _ = false
 
 -- no active temporary but the call's own result stands in a clobbered register in a call's cycle
 abbrev pub Clobbers : Table → Temps → Job → Type 0

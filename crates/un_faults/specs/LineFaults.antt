@@ -7,7 +7,8 @@ use Rattle.std.specs.Str.{bytes_eq}
 use Rattle.un_isa.specs.declared.op.Op.{Op}
 use Rattle.un_isa.specs.declared.reg.Space.{Space}
 use Rattle.un_isa.specs.Facts.{operand_spaces, result_space}
-use Rattle.un_ir.specs.WellFormed.{kind_in, is_call}
+use Rattle.un_isa.specs.Does.{is_call}
+use Rattle.un_ir.specs.WellFormed.{kind_in}
 use Rattle.un_faults.specs.Vocabulary.{Pred, Number, TermLine, Jump, Branch, Ret, Line, Blank, Func, Block, Operation, Terminator, Spelled}
 use Rattle.un_ir.specs.declared.function.TheConstants.{BLOCKS, OPS, NAMES, FREQUENCY, PARAMS}
 use Rattle.un_faults.specs.declared.before.Before.{Before}

@@ -19,12 +19,12 @@ use std::alloc::Global;
 use un_base::memory_error::NoMemory;
 use un_base::name::Name;
 use un_ir::function::{BLOCKS, FREQUENCY, Kind, NAMES, OPS, PARAMS};
+use un_isa::does::is_call;
 use un_isa::facts::{operand_spaces, result_space};
 use un_isa::op::Op;
 use un_isa::reg::Space;
 use un_words::forms::is_text;
 use un_words::line::{Line, OpLine, TermLine};
-use un_words::shape::is_call;
 use un_words::token::Number;
 
 /// Whether it is a tab, or a byte from a space to a tilde.

@@ -1,6 +1,6 @@
 -- What the blocks and the operations of every function keep.
-use Rattle.std.proofs.Common.{◌≡◌, ℕ, ◌≤◌, ℤ, true, List, Option, Some, None, unwrap_or, map, length, slice_get, All}
-use Rattle.std.proofs.Common.{ap, ◌∙◌}
+use Rattle.std.proofs.Common.{◌≡◌, ℕ, ◌≤◌, ℤ, Bool, true, false, List, Option, Some, None, unwrap_or, map, length, slice_get, All}
+use Rattle.std.proofs.Common.{ap, ◌∙◌, refl}
 use Rattle.std.proofs.Props.{props}
 use Rattle.std.proofs.Math.Logic.{∥∥₁_elim}
 use Rattle.std.proofs.lemmas.Option.{slice_get-map}
@@ -11,9 +11,10 @@ use Rattle.un_isa.specs.Operands.{IsLiteralOf}
 use Rattle.un_isa.specs.declared.facts.Range.{Range}
 use Rattle.un_isa.specs.declared.facts.Range.TheVariants.{Signed16, Signed10, Unsigned5, Offset, FrameOffset}
 use Rattle.un_isa.specs.declared.op.Op.{Op}
-use Rattle.un_isa.specs.declared.op.Op.TheVariants.{Store, Call, Jump as JumpTo, JumpIf, JumpIfNot}
-use Rattle.un_isa.specs.declared.op.Op.TheVariants.{Jumpr, Spill, P2R, R2P, Enter, Leave, Nop}
+use Rattle.un_isa.specs.declared.op.Op.TheVariants.{Store, Call}
 use Rattle.un_isa.specs.declared.reg.Space.{Space}
+use Rattle.un_isa.specs.Does.{is_call}
+use Rattle.un_isa.proofs.DoesLaws.{so_holds}
 use Rattle.un_ir.specs.declared.function.Kind.{Kind}
 use Rattle.un_ir.specs.declared.function.Kind.TheVariants.{General}
 use Rattle.un_ir.specs.declared.function.SrcOp.{SrcOp}
@@ -26,7 +27,7 @@ use Rattle.un_ir.specs.Extended.{name_kind, HasItsResult, IsSourceOp}
 use Rattle.un_ir.specs.LinearOf.{kind_of_pair}
 use Rattle.un_ir.specs.Names.{kind_of}
 use Rattle.un_ir.specs.WellFormed.{Names, IsOfKind, IsGoodOp, IsGoodBlock, IsWellFormed, ReadsItsKinds, AssignsItsKind, TestsItsKind}
-use Rattle.un_ir.specs.WellFormed.{AreRead, IsAssigned, IsCallee, operand_kinds, result_kind}
+use Rattle.un_ir.specs.WellFormed.{takes_arguments, AreRead, IsAssigned, IsCallee, operand_kinds, kind_given, result_kind}
 use Rattle.un_ir.proofs.NameBounds.{at_all}
 
 -- ---- they hold in one way
@@ -81,22 +82,30 @@ good_block f b block at =
     ∥∥₁_elim f.well_formed (block_prop f.names block)
     (λ (w : IsWellFormed f.name f.params f.names f.blocks). at_all (IsGoodBlock f.names) f.blocks b block w.good_blocks at)
 
+-- a call alone takes arguments
+pub call_arguments : (op : Op) → is_call op ≡ takes_arguments (facts_of op).operands
+call_arguments Call = refl
+call_arguments op = refl
+
 -- ---- an operation that a text may have
 
 module _ (names : Names) where
+  -- whether an operation always has a result
+  abbrev always_gives : Operands → Option Space → Bool
+  always_gives (Fixed spaces) (Some space) = true
+  always_gives _ _ = false
+
+  gives : (operands : Operands) (result : Option Space) → always_gives operands result ≡ true → IsAssigned names operands result None → ⊥
+  gives (Fixed spaces) (Some space) g h = h
+  gives (Fixed spaces) None g h = cc g
+  gives Arguments result g h = cc g
+
   result_of : (op : Op) (dst : Option NameId) → is_source op ≡ true → AssignsItsKind names op dst → HasItsResult op dst
   result_of Store dst s h = h
   result_of Call dst s h = tt
-  result_of JumpTo None s h = absurd (cc s)
-  result_of JumpIf None s h = absurd (cc s)
-  result_of JumpIfNot None s h = absurd (cc s)
-  result_of Jumpr None s h = absurd (cc s)
-  result_of Spill None s h = absurd (cc s)
-  result_of Enter None s h = absurd (cc s)
-  result_of Leave None s h = absurd (cc s)
-  result_of Nop None s h = absurd (cc s)
-  result_of _ None s h = h
-  result_of _ (Some name) s h = tt
+  result_of op None s h =
+      gives (facts_of op).operands (result_space op) (so_holds (is_source op) (always_gives (facts_of op).operands (result_space op)) refl s) h
+  result_of op (Some name) s h = tt
 
   pub source_op : (o : SrcOp) → IsGoodOp names o → IsSourceOp o
   source_op o g = record {
@@ -112,27 +121,18 @@ module _ (names : Names) where
   Reads op srcs = map (kind_of names) srcs ≡ map Some (operand_kinds op)
 
   pub reads_kinds : (op : Op) (srcs : List NameId) → is_source op ≡ true → ReadsItsKinds names op srcs → Reads op srcs
-  reads_kinds JumpIf srcs s h = absurd (cc s)
-  reads_kinds JumpIfNot srcs s h = absurd (cc s)
-  reads_kinds Jumpr srcs s h = absurd (cc s)
-  reads_kinds Spill srcs s h = absurd (cc s)
-  reads_kinds P2R srcs s h = absurd (cc s)
-  reads_kinds R2P srcs s h = absurd (cc s)
+  reads_kinds Call srcs s h = h
   reads_kinds _ srcs s h = h
 
   pub assigns_kind : (op : Op) (name : NameId) → is_source op ≡ true → AssignsItsKind names op (Some name)
       → IsOfKind names (result_kind op) name
-  assigns_kind Store name s h = absurd (cc h)
-  assigns_kind JumpTo name s h = absurd (cc s)
-  assigns_kind JumpIf name s h = absurd (cc s)
-  assigns_kind JumpIfNot name s h = absurd (cc s)
-  assigns_kind Jumpr name s h = absurd (cc s)
-  assigns_kind Spill name s h = absurd (cc s)
-  assigns_kind R2P name s h = absurd (cc s)
-  assigns_kind Enter name s h = absurd (cc s)
-  assigns_kind Leave name s h = absurd (cc s)
-  assigns_kind Nop name s h = absurd (cc s)
-  assigns_kind _ name s h = h
+  assigns_kind op name s h = by (facts_of op).operands (result_space op) h
+    where
+      by : (operands : Operands) (result : Option Space) → IsAssigned names operands result (Some name)
+          → IsOfKind names (kind_given result) name
+      by operands None h = absurd (cc h)
+      by (Fixed spaces) (Some space) h = h
+      by Arguments (Some space) h = h
 
   -- the kind of a name among those of the linear function
   pub kind_is : (kind : Kind) (name : NameId) → IsOfKind names kind name → name_kind (map kind_of_pair names) name ≡ kind

@@ -1,7 +1,6 @@
 -- What an operation of an extended block is.
 use Rattle.std.specs.Prelude.{Bool, true, false}
-use Rattle.un_isa.specs.declared.op.Op.{Op}
-use Rattle.un_isa.specs.declared.op.Op.TheVariants.{Call}
+use Rattle.un_isa.specs.Does.{is_call}
 use Rattle.un_ir.specs.declared.function.Term.TheVariants.{Fall}
 use Rattle.un_ir.specs.declared.extended.ExtKind.{ExtKind}
 use Rattle.un_ir.specs.declared.extended.ExtKind.TheVariants.{In, Out, Body, End, Copy, Enter, Leave}
@@ -44,13 +43,9 @@ abbrev pub is_source : ExtKind → Bool
 is_source (Body o) = true
 is_source _ = false
 
-abbrev pub is_call_op : Op → Bool
-is_call_op Call = true
-is_call_op op = false
-
 -- a call of the source
 abbrev pub is_call_kind : ExtKind → Bool
-is_call_kind (Body o) = is_call_op o.op
+is_call_kind (Body o) = is_call o.op
 is_call_kind _ = false
 
 -- an end that falls through to the next block

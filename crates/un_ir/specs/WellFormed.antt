@@ -49,13 +49,10 @@ kind_given (Some space) = kind_in space
 abbrev pub result_kind : Op → Kind
 result_kind op = kind_given (result_space op)
 
--- the operation calls a function
+-- any number of arguments, which only a call takes
 abbrev pub takes_arguments : Operands → Bool
 takes_arguments (Fixed spaces) = false
 takes_arguments Arguments = true
-
-abbrev pub is_call : Op → Bool
-is_call op = takes_arguments (facts_of op).operands
 
 -- the operands are of the kinds of their places; a call takes any few words
 abbrev pub AreRead : Names → Operands → List NameId → Type 0

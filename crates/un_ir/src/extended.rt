@@ -11,7 +11,7 @@ use crate::function::{Kind, NAMES, OPS, PARAMS, SrcOp, Term};
 use std::alloc::AllocError;
 use un_base::ids::{NameId, TempId};
 use un_base::name::Name;
-use un_isa::op::Op;
+use un_isa::does::is_call;
 use un_isa::reg::{GENERALS, Reg};
 use un_isa::table::Table;
 use un_lists::items::Items;
@@ -164,7 +164,7 @@ impl ExtKind {
         ensures { result ≡ is_call_kind self.now }
     {
         match self {
-            ExtKind::Body(source) => matches!(source.op, Op::Call),
+            ExtKind::Body(source) => is_call(source.op),
             _ => false,
         }
     }

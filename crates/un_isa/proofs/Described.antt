@@ -3,9 +3,14 @@ use Rattle.std.specs.Prelude.{ℕ, ◌≡◌, Bool, true, false, List, [], ◌�
 use Rattle.std.specs.List.{range_with_len}
 use Rattle.std.proofs.Common.{refl}
 use Rattle.un_isa.specs.declared.op.Op.{Op}
+use Rattle.un_isa.specs.declared.op.TheConstants.{OPERATIONS}
+use Rattle.un_isa.specs.declared.op.Op.TheVariants.{Mov, Load, Store, Call, Jump, JumpIf, JumpIfNot, Jumpr}
+use Rattle.un_isa.specs.declared.op.Op.TheVariants.{Spill, Reload, P2R, R2P, Enter, Leave, Nop}
 use Rattle.un_isa.specs.declared.packet_counts.TheConstants.{PACKET, MEM_PLACES, STORE_PLACES, XC_PLACES, CONTROL_PLACES}
 use Rattle.un_isa.specs.declared.reg.Space.TheVariants.{R, P, M}
 use Rattle.un_isa.specs.declared.table.Needs.{Needs}
+use Rattle.un_isa.specs.Does.{is_call, is_return, is_jump, is_transfer, is_leaving, is_control, is_copy, writes_memory, is_word_access}
+use Rattle.un_isa.specs.Does.{moves_stack, is_nop}
 use Rattle.un_isa.specs.Facts.{all_ops, source_name, printed_name}
 use Rattle.un_isa.specs.Hexagon.{HEXAGON}
 use Rattle.un_isa.specs.Registers.{space_of, callee_saved, saved_registers}
@@ -14,7 +19,7 @@ use Rattle.un_isa.specs.Starts.{is_junk_from, are_predicates}
 use Rattle.un_isa.specs.Tables.{number_of, latency_of}
 
 -- by the number of the operation
-numbers : map number_of all_ops ≡ range_with_len 0 34
+numbers : map number_of all_ops ≡ range_with_len 0 OPERATIONS
 numbers = refl
 
 latencies : map (latency_of HEXAGON) all_ops ≡
@@ -98,3 +103,35 @@ printed_names : map printed_name all_ops ≡
     codes "memw" ∷ codes "call" ∷ codes "jump" ∷ codes "jump" ∷ codes "jump" ∷ codes "jumpr" ∷ codes "memw" ∷
     codes "memw" ∷ [] ∷ [] ∷ codes "add" ∷ codes "add" ∷ codes "nop" ∷ []
 printed_names = refl
+
+-- ---- what operations do
+
+transfers : filter is_transfer all_ops ≡ Jump ∷ JumpIf ∷ JumpIfNot ∷ Jumpr ∷ []
+transfers = refl
+
+jumps : filter is_jump all_ops ++ filter is_return all_ops ≡ filter is_transfer all_ops
+jumps = refl
+
+returns : filter is_return all_ops ≡ Jumpr ∷ []
+returns = refl
+
+leaving : filter is_leaving all_ops ≡ Jump ∷ Jumpr ∷ []
+leaving = refl
+
+controls : filter is_control all_ops ≡ filter is_call all_ops ++ filter is_transfer all_ops
+controls = refl
+
+called : filter is_call all_ops ≡ Call ∷ []
+called = refl
+
+copies : filter is_copy all_ops ≡ Mov ∷ Spill ∷ Reload ∷ P2R ∷ R2P ∷ []
+copies = refl
+
+writers : filter writes_memory all_ops ≡ Store ∷ Spill ∷ []
+writers = refl
+
+accesses : filter is_word_access all_ops ≡ Load ∷ Store ∷ Spill ∷ Reload ∷ []
+accesses = refl
+
+frames : filter moves_stack all_ops ++ filter is_nop all_ops ≡ Enter ∷ Leave ∷ Nop ∷ []
+frames = refl

@@ -1,15 +1,19 @@
 -- HEXAGON, entry by entry.
 use Rattle.std.proofs.Common.{ℕ, zero, suc, ◌≡◌, ◌<◌, Bool, true, false, ◌&&◌, not, slice_get, Some, IsSomeAnd, refl, arith, lit<, lit≤}
 use Rattle.std.proofs.Common.{◌⊎◌, inl, inr}
+use Rattle.std.specs.Prelude.{nat_eq}
+use Rattle.std.specs.Bool.{OnTrue}
 use Rattle.std.proofs.lemmas.Bool.{cases_lt}
+use Rattle.std.proofs.lemmas.Bool.Decides.{nat_tests}
 use Rattle.un_isa.specs.declared.op.Op.{Op}
-use Rattle.un_isa.specs.declared.op.Op.TheVariants.{Imm, Store, Jump, JumpIf, JumpIfNot, Jumpr, Spill, Enter, Leave, Nop}
+use Rattle.un_isa.specs.declared.op.Op.TheVariants.{Imm}
 use Rattle.un_isa.specs.declared.reg.TheConstants.{REGISTERS}
 use Rattle.un_isa.specs.Starts.{is_clobbered}
 use Rattle.un_isa.specs.Tables.{number_of, latency_of, in_mask}
 use Rattle.un_isa.specs.Facts.{class_of, latency_by}
 use Rattle.un_isa.specs.Hexagon.{HEXAGON, IsHexagon, needs_by, is_saved}
-use Rattle.un_isa.specs.Fit.{IsFit, IsFitLatency, AreFitNeeds, may_be_saved}
+use Rattle.un_isa.specs.Fit.{IsFit, IsFitLatency, AreFitNeeds, is_quick, may_be_saved}
+use Rattle.un_isa.proofs.DoesLaws.{so, so_holds}
 
 -- a test that holds at each number below n
 abbrev holds_below : (ℕ → Bool) → ℕ → Bool
@@ -40,15 +44,6 @@ agree_same true false h = absurd (cc h)
 agree_same false true h = absurd (cc h)
 agree_same false false h = refl
 
--- where the first test holds, the second does
-abbrev so : Bool → Bool → Bool
-so true b = b
-so false b = true
-
-so_holds : (a b : Bool) → so a b ≡ true → a ≡ true → b ≡ true
-so_holds true b h e = h
-so_holds false b h e = absurd (cc e)
-
 latencies : (op : Op) → latency_of HEXAGON op ≡ latency_by op
 latencies Imm = refl
 latencies _ = refl
@@ -70,17 +65,13 @@ hexagon_entries = record {
   result = refl;
 }
 
+quick_by : (b : Bool) (n : ℕ) → so b (nat_eq n 1) ≡ true → OnTrue b (n ≡ 1)
+quick_by true n h = grind (arith, nat_tests, h)
+quick_by false n h = tt
+
 fit_latencies : (op : Op) → IsFitLatency op (latency_of HEXAGON op)
-fit_latencies Store = (lit≤ tt, lit≤ tt, refl)
-fit_latencies Jump = (lit≤ tt, lit≤ tt, refl)
-fit_latencies JumpIf = (lit≤ tt, lit≤ tt, refl)
-fit_latencies JumpIfNot = (lit≤ tt, lit≤ tt, refl)
-fit_latencies Jumpr = (lit≤ tt, lit≤ tt, refl)
-fit_latencies Spill = (lit≤ tt, lit≤ tt, refl)
-fit_latencies Enter = (lit≤ tt, lit≤ tt, refl)
-fit_latencies Leave = (lit≤ tt, lit≤ tt, refl)
-fit_latencies Nop = (lit≤ tt, lit≤ tt, refl)
-fit_latencies _ = (lit≤ tt, lit≤ tt, tt)
+fit_latencies Imm = (lit≤ tt, lit≤ tt, tt)
+fit_latencies op = (lit≤ tt, lit≤ tt, quick_by (is_quick op) (latency_of HEXAGON op) refl)
 
 fit_needs : (op : Op) → IsSomeAnd (slice_get HEXAGON.uses (number_of op)) (AreFitNeeds (needs_by (class_of op)))
 fit_needs Imm = record { mem = (lit≤ tt, lit≤ tt); store = (lit≤ tt, lit≤ tt); xc = (lit≤ tt, lit≤ tt); control = (lit≤ tt, lit≤ tt) }

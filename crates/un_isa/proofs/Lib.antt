@@ -1,4 +1,5 @@
 pub mod Described
+pub mod DoesLaws
 pub mod HexagonTable
 pub mod MemoryWords
 pub mod RangeTests

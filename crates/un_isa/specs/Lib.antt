@@ -1,3 +1,4 @@
+pub mod Does
 pub mod Exactness
 pub mod Facts
 pub mod Fit

@@ -4,6 +4,7 @@
 #![tactic(auto)]
 
 pub mod alu;
+pub mod does;
 pub mod exact;
 pub mod facts;
 pub mod instr;

@@ -3,7 +3,8 @@
 /// How many operations there are.
 pub const OPERATIONS: usize = 34;
 
-/// An operation of the source or an instruction of the processor. `docs/DEFINITIONS.md` lists what each does.
+/// An operation of the source or an instruction of the processor. `does_of` says what each does, `value` what
+/// it computes.
 #[derive(Clone, Copy, PartialEq)]
 pub enum Op {
     Imm,

@@ -1,8 +1,11 @@
 //! The forms in which instructions are printed.
 
 ghost use Rattle.std.specs.Prelude.{◌≡◌};
-ghost use Rattle.un_listing.specs.Forms.{form_of};
+ghost use Rattle.un_isa.specs.Facts.{operand_spaces, literal_range};
+ghost use Rattle.un_listing.specs.Forms.{computed_form, form_of};
 
+use un_isa::does::{Does, When, does_of};
+use un_isa::facts::{literal_range, operand_spaces};
 use un_isa::op::Op;
 
 /// How an instruction is printed, as the Hexagon V4 Programmer's Reference Manual writes it. `rD` is its register, `rA`
@@ -41,27 +44,34 @@ pub enum Form {
     Idle,
 }
 
+/// The form of an operation that computes or compares.
+fn computed_form(op: Op) -> Form
+    ensures { result ≡ computed_form (operand_spaces op) (literal_range op) }
+{
+    match (operand_spaces(op), literal_range(op)) {
+        (_, None) => Form::Computed,
+        ([], Some(_)) => Form::Literal,
+        ([_, ..], Some(_)) => Form::WithLiteral,
+    }
+}
+
 /// The form of an operation.
 pub fn form_of(op: Op) -> Form
     ensures { result ≡ form_of op }
 {
-    match op {
-        Op::Imm => Form::Literal,
-        Op::Mov | Op::P2R | Op::R2P => Form::Copied,
-        Op::Add | Op::Sub | Op::And | Op::Or | Op::Xor | Op::Mpyi => Form::Computed,
-        Op::Mux | Op::CmpEq | Op::CmpGt | Op::CmpGtu => Form::Computed,
-        Op::Addi | Op::Andi | Op::Ori | Op::CmpEqi | Op::CmpGti => Form::WithLiteral,
-        Op::Asl | Op::Asr | Op::Lsr => Form::WithLiteral,
-        Op::Load => Form::Loaded,
-        Op::Store => Form::Stored,
-        Op::Reload => Form::Reloaded,
-        Op::Spill => Form::Spilled,
-        Op::Enter | Op::Leave => Form::StackMoved,
-        Op::Call => Form::Called,
-        Op::Jump => Form::Jumped,
-        Op::JumpIf => Form::JumpedIf,
-        Op::JumpIfNot => Form::JumpedIfNot,
-        Op::Jumpr => Form::Returned,
-        Op::Nop => Form::Idle,
+    match does_of(op) {
+        Does::Computes | Does::Compares => computed_form(op),
+        Does::Moves => Form::Copied,
+        Does::Loads => Form::Loaded,
+        Does::Stores => Form::Stored,
+        Does::Reloads => Form::Reloaded,
+        Does::Spills => Form::Spilled,
+        Does::OpensFrame | Does::ClosesFrame => Form::StackMoved,
+        Does::Calls => Form::Called,
+        Does::Jumps(When::Always) => Form::Jumped,
+        Does::Jumps(When::IfTrue) => Form::JumpedIf,
+        Does::Jumps(When::IfFalse) => Form::JumpedIfNot,
+        Does::Returns => Form::Returned,
+        Does::Rests => Form::Idle,
     }
 }

@@ -7,7 +7,9 @@ use Rattle.std.proofs.lemmas.List.Folds.{list_all-append}
 use Rattle.std.proofs.lemmas.Bool.{and_parts}
 use Rattle.un_base.specs.Names.{is_name}
 use Rattle.un_isa.specs.declared.op.Op.{Op}
-use Rattle.un_isa.specs.declared.op.Op.TheVariants.{Add, Store, Call, Jump, JumpIf, JumpIfNot, Jumpr, Spill, Enter, Leave, Nop}
+use Rattle.un_isa.specs.declared.op.Op.TheVariants.{Imm, Add, Call, Enter, Leave}
+use Rattle.un_isa.specs.declared.does.Does.{Does}
+use Rattle.un_isa.specs.declared.does.Does.TheVariants.{Calls, Jumps}
 use Rattle.un_isa.specs.declared.reg.TheConstants.{FRAME, REGISTERS}
 use Rattle.un_isa.specs.declared.reg.Space.{Space}
 use Rattle.un_isa.specs.declared.reg.Space.TheVariants.{R, P, M}
@@ -15,9 +17,9 @@ use Rattle.un_isa.specs.declared.reg.Reg.{Reg}
 use Rattle.un_isa.specs.declared.facts.Range.{Range}
 use Rattle.un_isa.specs.declared.instr.Instr.{Instr}
 use Rattle.un_isa.specs.Registers.{space_of}
-use Rattle.un_isa.specs.Facts.{operand_spaces, result_space, literal_range}
+use Rattle.un_isa.specs.Facts.{does_of, operand_spaces, result_space, literal_range}
 use Rattle.un_isa.specs.Operands.{IsLiteralOf}
-use Rattle.un_packet.specs.CodeRules.{IsGoodInstr, ReadsItsSpaces, WritesItsSpace, HasItsNumber, HasItsLabel}
+use Rattle.un_packet.specs.CodeRules.{IsGoodInstr, ReadsItsSpaces, WritesItsSpace, HasItsNumber, HasLabelOf}
 use Rattle.un_listing.specs.declared.form.Form.{Form}
 use Rattle.un_listing.specs.declared.form.Form.TheVariants.{Literal, Copied, Computed, WithLiteral, Loaded, Stored, Reloaded, Spilled}
 use Rattle.un_listing.specs.declared.form.Form.TheVariants.{StackMoved, Called, Jumped, JumpedIf, JumpedIfNot, Returned, Idle}
@@ -90,33 +92,32 @@ result_home None space h e = tt
 result_home (Some r) None h e = absurd (cc e)
 result_home (Some r) (Some s) h e = home r.0 s h (cc e)
 
+-- no result stands in a slot
+abbrev may_be_home : Option Space → Bool
+may_be_home None = true
+may_be_home (Some s) = is_home s
+
+home_by : (space : Option Space) → may_be_home space ≡ true → IfSome space (λ s. is_home s ≡ true)
+home_by None h = tt
+home_by (Some s) h = h
+
 writes_reg : (op : Op) (dst : Option Reg) → WritesItsSpace op dst → IfSome dst (λ r. r.0 < REGISTERS)
 writes_reg Call None w = tt
 writes_reg Call (Some r) w = absurd (cc w)
 writes_reg op dst w = result_home dst (result_space op) (by op) w
   where
     by : (op : Op) → IfSome (result_space op) (λ s. is_home s ≡ true)
-    by Store = tt
-    by Jump = tt
-    by JumpIf = tt
-    by JumpIfNot = tt
-    by Jumpr = tt
-    by Spill = tt
-    by Enter = tt
-    by Leave = tt
-    by Nop = tt
-    by _ = refl
+    by Imm = refl
+    by op = home_by (result_space op) refl
 
 of_literal : (range : Option Range) (n : ℤ) → IsLiteralOf range n → unsigned_abs n ≤ 65535
 of_literal None n e = rw e (lit≤ tt)
 of_literal (Some range) n h = small_literal range n h
 
-label_named : (op : Op) (label : Option (List ℕ)) → HasItsLabel op label → IfSome label (λ l. is_name l ≡ true)
-label_named op None h = tt
-label_named Call (Some l) h = h
-label_named Jump (Some l) h = h
-label_named JumpIf (Some l) h = h
-label_named JumpIfNot (Some l) h = h
+label_named : (does : Does) (label : Option (List ℕ)) → HasLabelOf does label → IfSome label (λ l. is_name l ≡ true)
+label_named does None h = tt
+label_named Calls (Some l) h = h
+label_named (Jumps when) (Some l) h = h
 label_named _ (Some l) h = absurd (cc h)
 
 number_small : (frame : ℕ) → frame ≤ FRAME → (op : Op) (n : ℤ) → HasItsNumber frame op n → unsigned_abs n ≤ 65535
@@ -130,7 +131,7 @@ tame frame small i g = record {
   result = writes_reg i.op i.dst g.writes;
   operands = reads_regs i.op i.srcs g.reads;
   literal = number_small frame small i.op i.imm g.literal;
-  label = label_named i.op i.label g.label;
+  label = label_named (does_of i.op) i.label g.label;
 }
 
 -- ---- texts

@@ -1,7 +1,7 @@
 //! Which line of a listing stands at its place.
 
 ghost use Rattle.std.specs.Prelude.{◌≡◌, ◌≢◌, ℕ, List, [], ◌∷◌, ◌++◌, ◌+◌, ◌<◌, ◌↔◌, IsTrue, IfOk, OnOk, Option, All, Contains};
-ghost use Rattle.un_packet.specs.CodeRules.{is_jump, is_transfer, is_leaving, transfers, leaves, LeadsToOneOf};
+ghost use Rattle.un_packet.specs.CodeRules.{transfers, leaves, LeadsToOneOf};
 ghost use Rattle.un_listing_reader.specs.Reading.{goes_on, BlockStands, PacketStands, Stands, LineValue};
 ghost use Rattle.un_listing_reader.specs.LabelSets.{SameLabels, IsBefore};
 
@@ -9,30 +9,9 @@ use crate::labels::{Before, Labels};
 use crate::line::Line;
 use un_base::memory_error::NoMemory;
 use un_base::name::Name;
+use un_isa::does::{is_jump, is_leaving, is_transfer};
 use un_isa::instr::Instr;
-use un_isa::op::Op;
 use un_packet::code::{BLOCKS, PACKETS, Packet};
-
-/// Whether it jumps to a label.
-fn is_jump(op: Op) -> bool
-    ensures { result ≡ is_jump op }
-{
-    matches!(op, Op::Jump | Op::JumpIf | Op::JumpIfNot)
-}
-
-/// Whether it leaves its block.
-fn is_transfer(op: Op) -> bool
-    ensures { result ≡ is_transfer op }
-{
-    matches!(op, Op::Jump | Op::JumpIf | Op::JumpIfNot | Op::Jumpr)
-}
-
-/// Whether it leaves its block always.
-fn is_leaving(op: Op) -> bool
-    ensures { result ≡ is_leaving op }
-{
-    matches!(op, Op::Jump | Op::Jumpr)
-}
 
 /// Whether an instruction of the packet leaves the block.
 fn transfers(packet: &Packet) -> bool

@@ -10,12 +10,14 @@ ghost use Rattle.un_isa.specs.PacketCounts.{FitPacket};
 ghost use Rattle.un_isa.specs.Registers.{space_of};
 ghost use Rattle.un_listing_reader.specs.Needed.{counts_from, is_distinct};
 ghost use Rattle.un_packet.specs.CodeRules.{ReadsItsSpaces, WritesItsSpace, HasItsBase, HasItsNumber, HasItsLabel, IsGoodInstr};
-ghost use Rattle.un_packet.specs.CodeRules.{IsGoodPacket, IsSomeName, written, needs_of, is_nop, number};
+ghost use Rattle.un_packet.specs.CodeRules.{IsGoodPacket, IsSomeName, written, needs_of, number};
+ghost use Rattle.un_isa.specs.Does.{is_nop};
 
 use crate::needs::fit_packet;
 use std::alloc::Global;
 use un_base::memory_error::NoMemory;
 use un_base::name::Name;
+use un_isa::does::{Does, does_of};
 use un_isa::facts::{is_in_range, literal_range, operand_spaces, result_space};
 use un_isa::instr::Instr;
 use un_isa::op::Op;
@@ -146,8 +148,8 @@ fn is_some_name(name: &Option<Name>) -> bool
 pub(crate) fn has_its_label(op: Op, label: &Option<Name>) -> bool
     ensures { IsTrue result ↔ (HasItsLabel op label.now) }
 {
-    match op {
-        Op::Call | Op::Jump | Op::JumpIf | Op::JumpIfNot => is_some_name(label),
+    match does_of(op) {
+        Does::Calls | Does::Jumps(_) => is_some_name(label),
         _ => label.is_none(),
     }
 }
@@ -194,7 +196,7 @@ fn has_nop(instrs: &[Instr]) -> bool
     ensures { result ≡ list_any (λ i. is_nop i.op) instrs.now }
 {
     for i in instrs {
-        if matches!(i.op, Op::Nop) {
+        if matches!(does_of(i.op), Does::Rests) {
             return true;
         }
     }

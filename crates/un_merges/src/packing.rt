@@ -4,12 +4,13 @@
 use std::alloc::{AllocError, Global};
 use un_base::ids::{BlockId, OpId};
 use un_base::memory_error::NoMemory;
+use un_isa::does::is_transfer;
 use un_isa::op::Op;
 use un_isa::packet_counts::{Resource, places};
 use un_isa::reg::{FIRST_SLOT, SLOTS};
 use un_isa::table::Table;
 use un_model::distances::{frame_distance, memory_distance};
-use un_model::instructions::{is_transfer, latency, share};
+use un_model::instructions::{latency, share};
 use un_model::model::{BlockVars, Model};
 use un_model::schedule::{Issue, LiveRange, Read, Schedule};
 

@@ -16,4 +16,5 @@ pub mod Readings
 pub mod ArcsKept
 pub mod EndLaws
 pub mod Gaps
+pub mod Transfers
 mod ArcLists

@@ -1,11 +1,9 @@
 -- What the operations of an extended function are as instructions.
 use Rattle.std.specs.Prelude.{ℕ, Bool, true, false, ◌==◌, if◌then◌else◌, Option, Some, None, slice_get, unwrap_or}
-use Rattle.un_isa.specs.Facts.{class_of, operand_space, result_space}
-use Rattle.un_isa.specs.declared.facts.Class.{Class}
-use Rattle.un_isa.specs.declared.facts.Class.TheVariants.{Control}
+use Rattle.un_isa.specs.Facts.{operand_space, result_space}
 use Rattle.un_isa.specs.Tables.{number_of, latency_of}
 use Rattle.un_isa.specs.declared.op.Op.{Op}
-use Rattle.un_isa.specs.declared.op.Op.TheVariants.{Mov, Call as CallOp, Jump as JumpOp, JumpIf, JumpIfNot, Jumpr, Spill, Reload, P2R, R2P}
+use Rattle.un_isa.specs.declared.op.Op.TheVariants.{Mov, Jump as JumpOp, JumpIf, JumpIfNot, Jumpr, Spill, Reload, P2R, R2P}
 use Rattle.un_isa.specs.declared.op.Op.TheVariants.{Enter as EnterOp, Leave as LeaveOp}
 use Rattle.un_isa.specs.declared.reg.Space.{Space}
 use Rattle.un_isa.specs.declared.reg.Space.TheVariants.{P, M}
@@ -59,15 +57,6 @@ no_needs = record { mem = 0; store = 0; xc = 0; control = 0 }
 abbrev pub needs_by : Table → Option Op → Needs
 needs_by t None = no_needs
 needs_by t (Some op) = unwrap_or (slice_get t.uses (number_of op)) no_needs
-
-abbrev pub is_control : Class → Bool
-is_control Control = true
-is_control _ = false
-
--- a control transfer that ends its block
-abbrev pub is_transfer : Op → Bool
-is_transfer CallOp = false
-is_transfer op = is_control (class_of op)
 
 -- the space of the operand at place j: a Reload's is a slot
 abbrev pub operand_space_in : Op → ℕ → Option Space

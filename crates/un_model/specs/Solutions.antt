@@ -10,6 +10,7 @@ use Rattle.un_isa.specs.declared.reg.TheConstants.{FIRST_SLOT}
 use Rattle.un_isa.specs.Registers.{space_of}
 use Rattle.un_isa.specs.declared.table.Table.{Table}
 use Rattle.un_isa.specs.Tables.{latency_of, gap_by, in_mask}
+use Rattle.un_isa.specs.Does.{is_transfer}
 use Rattle.un_domains.specs.declared.domain.Domain.{Domain}
 use Rattle.un_domains.specs.declared.domain.Domain.TheVariants.{Range, Set}
 use Rattle.un_model.specs.declared.model.Model.{Model}
@@ -23,7 +24,7 @@ use Rattle.un_model.specs.declared.schedule.Schedule.{Schedule}
 use Rattle.un_model.specs.declared.verdict.Verdict.{Verdict}
 use Rattle.un_model.specs.Congruences.{KeepsCongruences}
 use Rattle.un_model.specs.Cost.{value_of}
-use Rattle.un_model.specs.Instructions.{needs_by, is_transfer, space_read, space_given}
+use Rattle.un_model.specs.Instructions.{needs_by, space_read, space_given}
 use Rattle.un_model.specs.Schedules.{schedule_of}
 
 -- the least number of cycles from the instruction of one operation to that of another, none where they may be in any order

@@ -2,13 +2,13 @@
 
 ghost use Rattle.std.specs.Prelude.{◌≡◌, ◌^◌, ◌<◌};
 ghost use Rattle.un_model.specs.Instructions.{transfer_of, copy_of, frame_instr, instruction_of, latency_by, needs_by, no_needs};
-ghost use Rattle.un_model.specs.Instructions.{is_control, is_transfer, operand_space_in, result_space_in, space_read, space_given};
+ghost use Rattle.un_model.specs.Instructions.{operand_space_in, result_space_in, space_read, space_given};
 ghost use Rattle.un_model.specs.Instructions.{is_predicate_space, gives_truth};
 ghost use Rattle.un_model.specs.Solutions.{share_of, latency_gap};
 
 use un_ir::extended::{ExtKind, FROM_PREDICATE, MOVE, RELOAD, SPILL, TO_PREDICATE};
 use un_ir::function::Term;
-use un_isa::facts::{Class, class_of, operand_space, result_space};
+use un_isa::facts::{operand_space, result_space};
 use un_isa::op::Op;
 use un_isa::packet_counts::{self, Resource};
 use un_isa::reg::Space;
@@ -99,16 +99,6 @@ pub fn needs(t: &Table, op: Option<Op>) -> Needs
             control: 0,
         },
         Some(instruction) => table::uses(t, instruction),
-    }
-}
-
-/// Whether an instruction is a control transfer that ends its block.
-pub fn is_transfer(op: Op) -> bool
-    ensures { result ≡ is_transfer op }
-{
-    match op {
-        Op::Call => false,
-        _ => matches!(class_of(op), Class::Control),
     }
 }
 

@@ -17,24 +17,28 @@ use Rattle.un_lists.specs.Exactness.{list_reflexive}
 use Rattle.un_isa.specs.declared.facts.Range.{Range}
 use Rattle.un_isa.specs.declared.facts.Range.TheVariants.{Unsigned5}
 use Rattle.un_isa.specs.declared.op.Op.{Op}
-use Rattle.un_isa.specs.declared.op.Op.TheVariants.{Call, Jump, JumpIf, JumpIfNot, Jumpr, Enter, Leave}
+use Rattle.un_isa.specs.declared.op.Op.TheVariants.{Call, Enter, Leave}
+use Rattle.un_isa.specs.declared.does.Does.{Does}
+use Rattle.un_isa.specs.declared.does.Does.TheVariants.{Calls, Jumps, Returns}
+use Rattle.un_isa.specs.declared.does.When.TheVariants.{Always, IfTrue, IfFalse}
 use Rattle.un_isa.specs.declared.reg.Reg.{Reg}
 use Rattle.un_isa.specs.declared.instr.Instr.{Instr}
 use Rattle.un_isa.specs.declared.start.Reply.{Reply}
 use Rattle.un_isa.specs.declared.table.Table.{Table}
-use Rattle.un_isa.specs.Facts.{literal_range, operand_spaces}
+use Rattle.un_isa.specs.Facts.{does_of, literal_range, operand_spaces}
 use Rattle.un_isa.specs.Hexagon.{HEXAGON}
 use Rattle.un_isa.specs.Registers.{space_of}
 use Rattle.un_isa.specs.Operands.{IsLiteralOf, IsShift, IsShiftOf}
+use Rattle.un_isa.specs.Does.{calls, jumps as jumps_to, returns, leaves_always, is_jump, is_leaving, is_call, is_return}
 use Rattle.un_packet.specs.declared.code.Packet.{Packet}
 use Rattle.un_packet.specs.declared.code.CodeBlock.{CodeBlock}
-use Rattle.un_packet.specs.CodeRules.{KeepsRules, IsGoodCodeBlock, IsGoodPacket, IsGoodInstr, HasItsNumber, HasItsLabel, ReadsItsSpaces}
-use Rattle.un_packet.specs.CodeRules.{IsThere, IsSomeName, LeadsToOneOf, labels_of, is_jump, is_leaving, leaves, EndsByLeaving}
+use Rattle.un_packet.specs.CodeRules.{KeepsRules, IsGoodCodeBlock, IsGoodPacket, IsGoodInstr, HasItsNumber, HasLabelOf, ReadsItsSpaces}
+use Rattle.un_packet.specs.CodeRules.{IsThere, IsSomeName, LeadsToOneOf, labels_of, leaves, EndsByLeaving}
 use Rattle.un_packet.specs.Machine.{LeadsTo}
 use Rattle.un_packet.specs.Run.{packets_run, then_packets, label_place}
 use Rattle.un_packet.specs.Runnable.{IsRunnable, AreRunnable}
 use Rattle.un_packet.specs.Step.{PacketState, PacketStep, Went, Jumped, Stopped, Trapped, traps, packet_step, with_call, leads, jumps}
-use Rattle.un_packet.specs.Step.{jumps_by, is_call, is_return, after, answered, issue_cycle, record_of}
+use Rattle.un_packet.specs.Step.{goes_by, operand_in, after, answered, issue_cycle, record_of}
 
 pub at_all : {X : Type 0} (P : X → Type 0) (xs : List X) (k : ℕ) (x : X) → All P xs → slice_get xs k ≡ Some x → P x
 at_all P [] k x h e = absurd (cc e)
@@ -65,11 +69,9 @@ is_there : (label : Option (List ℕ)) → IsSomeName label → IsThere label
 is_there None h = h
 is_there (Some name) h = tt
 
-label_of : (op : Op) (label : Option (List ℕ)) → HasItsLabel op label → OnTrue (is_call op || is_jump op) (IsThere label)
-label_of Call label h = is_there label h
-label_of Jump label h = is_there label h
-label_of JumpIf label h = is_there label h
-label_of JumpIfNot label h = is_there label h
+label_of : (does : Does) (label : Option (List ℕ)) → HasLabelOf does label → OnTrue (calls does || jumps_to does) (IsThere label)
+label_of Calls label h = is_there label h
+label_of (Jumps when) label h = is_there label h
 label_of _ label h = tt
 
 runnable : (frame : ℕ) (i : Instr) → IsGoodInstr frame i → IsRunnable i
@@ -77,7 +79,7 @@ runnable frame i h = record {
   shift = shift_of frame i.op i.imm h.literal;
   few = few_of i.op i.srcs h.reads;
   label =
-      label_of i.op i.label h.label;
+      label_of (does_of i.op) i.label h.label;
 }
 
 shift_prop : (range : Option Range) (n : ℤ) → IsProp (IsShiftOf range n)
@@ -108,10 +110,12 @@ head_none : {X : Type 0} (p : X → Bool) (x : X) (xs : List X) (b : Bool) → p
 head_none p x xs true e h = absurd (let k = rw e at h in cc k)
 head_none p x xs false e h = let k = rw e at h in (e, k)
 
-not_leaving : (op : Op) (s : PacketState) (i : Instr) → is_return op ≡ false → jumps_by op s i ≡ false → is_leaving op ≡ false
-not_leaving Jump s i r j = absurd (cc j)
-not_leaving Jumpr s i r j = absurd (cc r)
-not_leaving _ s i r j = refl
+not_leaving : (does : Does) (v : ℕ) → returns does ≡ false → goes_by does v ≡ false → leaves_always does ≡ false
+not_leaving (Jumps Always) v r j = absurd (cc j)
+not_leaving (Jumps IfTrue) v r j = refl
+not_leaving (Jumps IfFalse) v r j = refl
+not_leaving Returns v r j = absurd (cc r)
+not_leaving _ v r j = refl
 
 none_leaves : (s : PacketState) (is : List Instr) → find (λ (i : Instr). is_return i.op) is ≡ None → find (jumps s) is ≡ None
     → list_any (λ (i : Instr). is_leaving i.op) is ≡ false
@@ -119,7 +123,7 @@ none_leaves s [] r j = refl
 none_leaves s (i ∷ is) r j =
     let a = head_none (λ (i : Instr). is_return i.op) i is (is_return i.op) refl r in
     let b = head_none (jumps s) i is (jumps s i) refl j in
-    rw (not_leaving i.op s i a.0 b.0) (none_leaves s is a.1 b.1)
+    rw (not_leaving (does_of i.op) (operand_in s i 0) a.0 b.0) (none_leaves s is a.1 b.1)
 
 -- what a packet's step may be, where its jumps lead to one of the labels
 abbrev IsInside : List (List ℕ) → List Instr → PacketStep → Type 0
@@ -139,11 +143,9 @@ found_jump labels s [] i all f = absurd (cc f)
 found_jump labels s (j ∷ js) i all f = found_by labels s j js i (jumps s j) refl (all 0 j (omega arith)) f
     (found_jump labels s js i (λ n d lt. all (suc n) d (omega arith)))
 
-jumping : (op : Op) (s : PacketState) (i : Instr) → jumps_by op s i ≡ true → is_jump op ≡ true
-jumping Jump s i h = refl
-jumping JumpIf s i h = refl
-jumping JumpIfNot s i h = refl
-jumping _ s i h = absurd (cc h)
+jumping : (does : Does) (v : ℕ) → goes_by does v ≡ true → jumps_to does ≡ true
+jumping (Jumps when) v h = refl
+jumping _ v h = absurd (cc h)
 
 label_in : (labels : List (List ℕ)) (o : Option (List ℕ)) → IsSomeAnd o (Contains labels) → Contains labels (unwrap_or o [])
 label_in labels None h = absurd h
@@ -155,7 +157,7 @@ leads_in labels s u is all (Some i) j er ej = tt
 leads_in labels s u is all None None er ej = rw ej (none_leaves s is er ej)
 leads_in labels s u is all None (Some i) er ej =
     let f = found_jump labels s is i all ej in
-    rw ej (label_in labels i.label (OnTrue_at (jumping i.op s i f.1) f.0))
+    rw ej (label_in labels i.label (OnTrue_at (jumping (does_of i.op) (operand_in s i 0) f.1) f.0))
 
 with_in : (t : Table) (labels : List (List ℕ)) (s : PacketState) (is : List Instr) → All (LeadsToOneOf labels) is
     → (call : Option Instr) (replies : List Reply) → IsInside labels is (with_call t call replies s is)

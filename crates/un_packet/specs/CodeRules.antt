@@ -6,12 +6,15 @@ use Rattle.std.specs.Bool.{OnTrue}
 use Rattle.std.specs.Option.{option_map, option_to_list}
 use Rattle.un_base.specs.Names.{is_name}
 use Rattle.un_isa.specs.declared.op.Op.{Op}
-use Rattle.un_isa.specs.declared.op.Op.TheVariants.{Load, Store, Call, Jump, JumpIf, JumpIfNot, Jumpr, Enter, Leave, Nop}
+use Rattle.un_isa.specs.declared.op.Op.TheVariants.{Load, Store, Call, Enter, Leave}
+use Rattle.un_isa.specs.declared.does.Does.{Does}
+use Rattle.un_isa.specs.declared.does.Does.TheVariants.{Calls, Jumps}
 use Rattle.un_isa.specs.declared.reg.TheConstants.{STACK, LINK, GENERALS, PREDICATES, FRAME}
 use Rattle.un_isa.specs.declared.reg.Reg.{Reg}
 use Rattle.un_isa.specs.declared.instr.Instr.{Instr}
 use Rattle.un_isa.specs.declared.table.Needs.{Needs}
-use Rattle.un_isa.specs.Facts.{class_of, operand_spaces, result_space}
+use Rattle.un_isa.specs.Does.{is_jump, is_transfer, is_leaving, is_nop}
+use Rattle.un_isa.specs.Facts.{does_of, class_of, operand_spaces, result_space}
 use Rattle.un_isa.specs.Hexagon.{needs_by}
 use Rattle.un_isa.specs.Operands.{HasLiteral}
 use Rattle.un_isa.specs.PacketCounts.{FitPacket}
@@ -53,12 +56,13 @@ abbrev pub IsSomeName : Option (List ℕ) → Type 0
 IsSomeName label = IsSomeAnd label (λ name. is_name name ≡ true)
 
 -- a call has the name of its function, a jump its label, which is a name too, and no other instruction has one
+abbrev pub HasLabelOf : Does → Option (List ℕ) → Type 0
+HasLabelOf Calls label = IsSomeName label
+HasLabelOf (Jumps when) label = IsSomeName label
+HasLabelOf _ label = label ≡ None
+
 abbrev pub HasItsLabel : Op → Option (List ℕ) → Type 0
-HasItsLabel Call label = IsSomeName label
-HasItsLabel Jump label = IsSomeName label
-HasItsLabel JumpIf label = IsSomeName label
-HasItsLabel JumpIfNot label = IsSomeName label
-HasItsLabel op label = label ≡ None
+HasItsLabel op label = HasLabelOf (does_of op) label
 
 -- the stack pointer is no base of a Load or a Store: those are Reload and Spill
 abbrev pub HasItsBase : Op → List Reg → Type 0
@@ -91,10 +95,6 @@ written i = written_by i.op i.dst
 abbrev pub needs_of : Instr → Needs
 needs_of i = needs_by (class_of i.op)
 
-abbrev pub is_nop : Op → Bool
-is_nop Nop = true
-is_nop _ = false
-
 pub record IsGoodPacket (frame : ℕ) (p : Packet) : Type 0 where
   pub some : 0 < length p.instrs
   pub instrs : All (IsGoodInstr frame) p.instrs
@@ -105,24 +105,6 @@ pub record IsGoodPacket (frame : ℕ) (p : Packet) : Type 0 where
   pub one_writer : AllPairs (λ (a b : ℕ). a ≢ b) (flat_map written p.instrs)
 
 -- ---- blocks
-
--- a jump to a label
-abbrev pub is_jump : Op → Bool
-is_jump Jump = true
-is_jump JumpIf = true
-is_jump JumpIfNot = true
-is_jump _ = false
-
--- an instruction that leaves its block
-abbrev pub is_transfer : Op → Bool
-is_transfer Jumpr = true
-is_transfer op = is_jump op
-
--- one that leaves it always
-abbrev pub is_leaving : Op → Bool
-is_leaving Jump = true
-is_leaving Jumpr = true
-is_leaving _ = false
 
 abbrev pub transfers : Packet → Bool
 transfers p = list_any (λ (i : Instr). is_transfer i.op) p.instrs

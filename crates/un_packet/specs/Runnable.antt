@@ -7,8 +7,9 @@ use Rattle.un_isa.specs.declared.instr.Instr.{Instr}
 use Rattle.un_isa.specs.Operands.{IsShift}
 use Rattle.un_packet.specs.declared.code.TheConstants.{ARGUMENTS}
 use Rattle.un_packet.specs.declared.state.Spare.{Spare}
-use Rattle.un_packet.specs.CodeRules.{is_jump, IsThere}
-use Rattle.un_packet.specs.Step.{is_call}
+use Rattle.un_packet.specs.CodeRules.{IsThere}
+use Rattle.un_isa.specs.Does.{is_jump}
+use Rattle.un_isa.specs.Does.{is_call}
 
 -- shifts by less than a word, a call's few arguments, and the labels of calls and jumps
 pub record IsRunnable (i : Instr) : Type 0 where

@@ -7,7 +7,13 @@ use Rattle.un_isa.specs.Memories.{word_at, set_word, set_words}
 use Rattle.un_isa.specs.Words.{eval, address_of}
 use Rattle.un_isa.specs.Tables.{latency_of, in_mask}
 use Rattle.un_isa.specs.declared.op.Op.{Op}
-use Rattle.un_isa.specs.declared.op.Op.TheVariants.{Load, Store, Call, Jump, JumpIf, JumpIfNot, Jumpr, Spill, Reload, Enter, Leave}
+use Rattle.un_isa.specs.declared.op.Op.TheVariants.{Load, Store, Call, Spill, Reload, Enter, Leave}
+use Rattle.un_isa.specs.declared.does.Does.{Does}
+use Rattle.un_isa.specs.declared.does.Does.TheVariants.{Jumps}
+use Rattle.un_isa.specs.declared.does.When.{When}
+use Rattle.un_isa.specs.declared.does.When.TheVariants.{Always, IfTrue, IfFalse}
+use Rattle.un_isa.specs.Does.{is_call, is_return}
+use Rattle.un_isa.specs.Facts.{does_of}
 use Rattle.un_isa.specs.declared.reg.Reg.{Reg}
 use Rattle.un_isa.specs.declared.reg.TheConstants.{STACK}
 use Rattle.un_isa.specs.declared.instr.Instr.{Instr}
@@ -170,24 +176,23 @@ answered t call reply rest s = record {
   ready = each_from (call_ready t s.cycle) 0 s.ready;
 }
 
-abbrev pub is_call : Op → Bool
-is_call Call = true
-is_call _ = false
-
-abbrev pub is_return : Op → Bool
-is_return Jumpr = true
-is_return _ = false
-
 -- a call as its callee sees it
 abbrev pub record_of : PacketState → Instr → CallRecord
 record_of s i = record { name = unwrap_or i.label []; args = map (reg_in s) i.srcs; memory = s.memory }
 
+-- whether a jump is taken, by the value of its predicate
+abbrev pub is_taken : When → ℕ → Bool
+is_taken Always v = true
+is_taken IfTrue v = not (nat_eq v 0)
+is_taken IfFalse v = nat_eq v 0
+
+abbrev pub goes_by : Does → ℕ → Bool
+goes_by (Jumps when) v = is_taken when v
+goes_by _ v = false
+
 -- whether an instruction jumps
 abbrev pub jumps_by : Op → PacketState → Instr → Bool
-jumps_by Jump s i = true
-jumps_by JumpIf s i = not (nat_eq (operand_in s i 0) 0)
-jumps_by JumpIfNot s i = nat_eq (operand_in s i 0) 0
-jumps_by _ s i = false
+jumps_by op s i = goes_by (does_of op) (operand_in s i 0)
 
 abbrev pub jumps : PacketState → Instr → Bool
 jumps s i = jumps_by i.op s i

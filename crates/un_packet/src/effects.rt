@@ -8,11 +8,13 @@ ghost use Rattle.un_isa.specs.Operands.{IsShift};
 ghost use Rattle.un_isa.specs.Words.{address_of};
 ghost use Rattle.un_packet.specs.Runnable.{IsRunnable, AreRunnable};
 ghost use Rattle.un_packet.specs.Step.{reg_in, operand_in, word_place, frame_place, traps, value_of, writes_of, reads_of, issue_cycle};
-ghost use Rattle.un_packet.specs.Step.{regs_after, ready_after, is_return, is_call, jumps};
+ghost use Rattle.un_packet.specs.Step.{regs_after, ready_after, is_taken, jumps};
+ghost use Rattle.un_isa.specs.Does.{is_return, is_call};
 
 use crate::state::{State, at, put, put_ready, ready_at};
 use un_base::name::Name;
 use un_isa::alu::value;
+use un_isa::does::{Does, When, does_of, is_call, is_return};
 use un_isa::instr::Instr;
 use un_isa::op::Op;
 use un_isa::reg::{REGISTERS, Reg, STACK};
@@ -29,23 +31,14 @@ fn latest(ready: &[u64; REGISTERS as usize], regs: &[Reg], cycle: u64) -> u64
     latest
 }
 
-/// Whether an operation returns.
-fn is_return(op: Op) -> bool
-    ensures { result ≡ is_return op }
+/// Whether a jump is taken, by the value of its predicate.
+fn is_taken(when: When, predicate: u32) -> bool
+    ensures { result ≡ is_taken when predicate }
 {
-    match op {
-        Op::Jumpr => true,
-        _ => false,
-    }
-}
-
-/// Whether an operation calls.
-fn is_call(op: Op) -> bool
-    ensures { result ≡ is_call op }
-{
-    match op {
-        Op::Call => true,
-        _ => false,
+    match when {
+        When::Always => true,
+        When::IfTrue => predicate != 0,
+        When::IfFalse => predicate == 0,
     }
 }
 
@@ -246,10 +239,8 @@ impl State {
     fn jumps(&self, i: &Instr) -> bool
         ensures { result ≡ jumps self.now i.now }
     {
-        match i.op {
-            Op::Jump => true,
-            Op::JumpIf => self.operand(i, 0) != 0,
-            Op::JumpIfNot => self.operand(i, 0) == 0,
+        match does_of(i.op) {
+            Does::Jumps(when) => is_taken(when, self.operand(i, 0)),
             _ => false,
         }
     }

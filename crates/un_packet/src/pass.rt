@@ -6,7 +6,8 @@ ghost use Rattle.un_isa.specs.declared.instr.Instr.{Instr};
 ghost use Rattle.un_isa.specs.declared.start.Reply.{Reply};
 ghost use Rattle.un_packet.specs.Passes.{IsPassed, led, HasSpare, UsesReplies};
 ghost use Rattle.un_packet.specs.Runnable.{AreRunnable, calls_in};
-ghost use Rattle.un_packet.specs.Step.{PacketState, after, answered, issue_cycle, is_return, leads, record_of, with_call, packet_step};
+ghost use Rattle.un_packet.specs.Step.{PacketState, after, answered, issue_cycle, leads, record_of, with_call, packet_step};
+ghost use Rattle.un_isa.specs.Does.{is_return};
 
 use crate::effects::call_in;
 use crate::state::{Spare, State};

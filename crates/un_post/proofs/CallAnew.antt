@@ -15,6 +15,7 @@ use Rattle.un_isa.specs.declared.reg.Space.{Space}
 use Rattle.un_isa.specs.declared.reg.Space.TheVariants.{R, P, M}
 use Rattle.un_isa.specs.declared.reg.TheConstants.{REGISTERS}
 use Rattle.un_isa.specs.declared.table.Table.{Table}
+use Rattle.un_isa.proofs.DoesLaws.{call_is}
 use Rattle.un_ir.specs.declared.function.Term.TheVariants.{Fall, Jump, Branch, Ret}
 use Rattle.un_ir.specs.declared.extended.ExtKind.{ExtKind}
 use Rattle.un_ir.specs.declared.extended.ExtKind.TheVariants.{In, Out, Body, End, Copy, Enter, Leave}
@@ -44,7 +45,7 @@ use Rattle.un_post.proofs.Memory.{contains_member}
 use Rattle.un_post.proofs.Placing.{place_of}
 use Rattle.un_post.proofs.Regions.{of_region}
 use Rattle.un_post.proofs.SpaceSets.{predicate}
-use Rattle.un_post.proofs.Spared.{call_instr, call_op, is_spared, range_spared}
+use Rattle.un_post.proofs.Spared.{call_instr, is_spared, range_spared}
 use Rattle.un_post.proofs.Tests.{and_iff, le_iff, lt_iff}
 use Rattle.un_post.proofs.Whole.{issues_each, ranges_each}
 
@@ -176,7 +177,7 @@ module _ (e : Ext) (o : Options) (x : List ℕ) (given : Given e o x)
             let here = subst (λ (k : ExtKind). InDomain reg (register_domain e o (in_entry e o x maker) maker.owner k s.place s.temp
             (carried maker.op s.temp))) k sits in
             let own = subst (λ (op : Op). InDomain reg (source_domain e o (in_entry e o x maker) maker.owner op s.temp))
-            (call_op so.op c) here in
+            (call_is so.op c) here in
             let is = contains_member ((e.table).result ∷ []) reg own in
             elim is [ inl same ↦ sym same | inr none ↦ elim none [ ] ]
         by In k c = absurd (cc c)

@@ -11,6 +11,7 @@ use Rattle.un_base.specs.declared.ids.TempId.{TempId}
 use Rattle.un_isa.specs.declared.op.Op.{Op}
 use Rattle.un_isa.specs.declared.packet_counts.Resource.TheVariants.{Instructions}
 use Rattle.un_isa.specs.declared.reg.Reg.{Reg}
+use Rattle.un_isa.proofs.DoesLaws.{call_is}
 use Rattle.un_ir.specs.declared.extended.ExtKind.{ExtKind}
 use Rattle.un_ir.specs.declared.extended.ExtKind.TheVariants.{In, Out, Body, End, Copy, Enter, Leave}
 use Rattle.un_ir.specs.declared.extended.Operand.{Operand}
@@ -34,7 +35,6 @@ use Rattle.un_post.proofs.Facts.{Given, numbered, good_op, definer_is, Reading a
 use Rattle.un_post.proofs.Packets.{no_room, share, sum_part, whole_taken}
 use Rattle.un_post.proofs.Placing.{place_of}
 use Rattle.un_post.proofs.Regions.{of_region}
-use Rattle.un_post.proofs.Spared.{call_op}
 
 -- ---- sums
 
@@ -129,7 +129,7 @@ module _ (e : Ext) (o : Options) (x : List ℕ) (given : Given e o x) where
   arg_home q j operand reg asked (Body so) c wants home =
       let fit = given.fit in
       let fits = asked.fits in
-      let here = subst (λ (op : Op). slice_get (wants_of_op e.table so op) j ≡ Some asked.want) (call_op so.op c) wants in
+      let here = subst (λ (op : Op). slice_get (wants_of_op e.table so op) j ≡ Some asked.want) (call_is so.op c) wants in
       let w = word_at (e.table).args (length so.srcs) j asked.want here in
       let a = arg_is j w.0 (subst (λ (args : List ℕ). slice_get args j ≡ Some w.0) fit.args w.1) in
       home_is operand.home reg w.0 (fits.home ∙ w.2) home ∙ a

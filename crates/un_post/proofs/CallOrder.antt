@@ -6,16 +6,12 @@ use Rattle.std.specs.Prelude.{Option, Some, None, IfSome, not, ◌&&◌, ◌||�
 use Rattle.std.specs.Prelude.{sum_by, unwrap_or, IsSomeAnd, if◌then◌else◌}
 use Rattle.std.proofs.lemmas.Bool.Decides.{nat_tests}
 use Rattle.std.proofs.lemmas.List.Sums.{sum_by-cons}
-use Rattle.un_isa.specs.Fit.{IsFit, AreFitNeeds}
+use Rattle.un_isa.specs.Fit.{IsFit}
 use Rattle.un_isa.specs.declared.op.Op.{Op}
-use Rattle.un_isa.specs.declared.op.Op.TheVariants.{Call, Load, Store, Jump as JumpOp, JumpIf, JumpIfNot, Jumpr}
-use Rattle.un_isa.specs.declared.facts.Class.{Class}
-use Rattle.un_isa.specs.declared.facts.Class.TheVariants.{Alu32, Xtype, Loading, Storing, Control as ControlClass, Nothing}
-use Rattle.un_isa.specs.Facts.{class_of}
-use Rattle.un_isa.specs.Hexagon.{needs_by as least_needs}
-use Rattle.un_isa.specs.Tables.{number_of}
-use Rattle.un_isa.specs.declared.table.Needs.{Needs}
+use Rattle.un_isa.specs.declared.op.Op.TheVariants.{Call, Load, Store}
 use Rattle.un_isa.specs.declared.table.Table.{Table}
+use Rattle.un_isa.specs.Does.{is_transfer, is_control}
+use Rattle.un_isa.proofs.DoesLaws.{transfer_control}
 use Rattle.un_ir.specs.declared.function.Term.{Term}
 use Rattle.un_ir.specs.declared.function.Term.TheVariants.{Fall, Jump, Branch, Ret}
 use Rattle.un_ir.specs.Linear.{is_in}
@@ -28,6 +24,7 @@ use Rattle.un_domains.specs.Sets.{has}
 use Rattle.un_model.specs.declared.model.Arc.{Arc}
 use Rattle.un_model.specs.declared.model.Options.{Options}
 use Rattle.un_model.specs.declared.model.TempVars.{TempVars}
+use Rattle.un_model.proofs.Transfers.{control_need}
 use Rattle.un_base.specs.declared.ids.VarId.{VarId}
 use Rattle.un_model.specs.declared.model.OpVars.{OpVars}
 use Rattle.un_model.specs.declared.schedule.Issue.{Issue}
@@ -36,7 +33,7 @@ use Rattle.un_model.specs.ArcLaws.{arc_told}
 use Rattle.un_model.specs.Arcs.{reads_from, own_instr, NeedsGap, block_arcs, blocks_arcs}
 use Rattle.un_model.specs.Arcs.NeedsGap.{ByData, ByMemory}
 use Rattle.un_model.proofs.Gaps.{gap_some}
-use Rattle.un_model.specs.Instructions.{instruction_of, needs_by, no_needs, is_control, is_transfer, transfer_of}
+use Rattle.un_model.specs.Instructions.{instruction_of, needs_by, transfer_of}
 use Rattle.un_model.specs.Schedules.{schedule_of, issues_of, value_by, cycle_by}
 use Rattle.un_model.specs.Solutions.{share_of, IsSchedule, IsPlaced, IsPlacedAs, IsLast, latency_gap, after_write, memory_distance}
 use Rattle.un_model.specs.Variables.{model_of, arcs_of, blocks_temps, block_count, ops_count, var_at}
@@ -143,25 +140,6 @@ sum_two f (p ∷ ps) a b (inr m) (inl g) apart =
     let cons = sum_by-cons f p ps in let same : f p ≡ f b = ap f g in let le = sum_here f ps a m in omega arith
 sum_two f (p ∷ ps) a b (inr m) (inr n) apart =
     let cons = sum_by-cons f p ps in let le = sum_two f ps a b m n apart in omega arith
-
-needs_control : (t : Table) → IsFit t → (op : Op) → is_control (class_of op) ≡ true → 1 ≤ (needs_by t (Some op)).control
-needs_control t fit op class = need (slice_get t.uses (number_of op)) (fit.needs op)
-  where
-    one : (c : Class) → is_control c ≡ true → 1 ≤ (least_needs c).control
-    one ControlClass h = omega arith
-    one Alu32 h = absurd (cc h)
-    one Xtype h = absurd (cc h)
-    one Loading h = absurd (cc h)
-    one Storing h = absurd (cc h)
-    one Nothing h = absurd (cc h)
-
-    need : (u : Option Needs) → IsSomeAnd u (AreFitNeeds (least_needs (class_of op))) → 1 ≤ (unwrap_or u no_needs).control
-    need None h = absurd h
-    need (Some u) h = let c = h.control in let lo = c.0 in let k = one (class_of op) class in omega arith
-
-is_control_of : (op : Op) → is_transfer op ≡ true → is_control (class_of op) ≡ true
-is_control_of Call h = refl
-is_control_of op h = h
 
 module _ (e : Ext) (o : Options) (x : List ℕ) (given : Given e o x)
     (schedule : IsSchedule (latency_gap e.table) (model_of e o).domains (model_of e o) x (schedule_of (model_of e o) x)) where
@@ -310,17 +288,17 @@ module _ (e : Ext) (o : Options) (x : List ℕ) (given : Given e o x)
             (let z : is_call_kind c.op.kind ≡ is_call_kind q.op.kind = ap (λ (p : Placed). is_call_kind p.op.kind) is in
             let y : true ≡ false = sym call ∙ z ∙ other in cc y)) in
             let one = takes_control c Call (call_instr c.op.kind (value_by x v.instr) call) refl mc same in
-            let more = takes_control q op instr (is_control_of op transfer) mq refl in
+            let more = takes_control q op instr (transfer_control op transfer) mq refl in
             omega arith
           where
-            takes_control : (p : Placed) (op : Op) → (issue_at x p).instr ≡ Some op → is_control (class_of op) ≡ true
+            takes_control : (p : Placed) (op : Op) → (issue_at x p).instr ≡ Some op → is_control op ≡ true
                 → Member p (region_placed r)
                 → (issue_at x p).cycle ≡ (issue_at x q).cycle → 1 ≤ share e o x given Control r.block (issue_at x q).cycle p
             takes_control p op instr class mp same =
                 let n = (issue_at x q).cycle in
                 let here : (p.block == r.block) ≡ true = eq-eqb p.block r.block (of_region r p mp) in
                 let now : ((issue_at x p).cycle == n) ≡ true = eq-eqb (issue_at x p).cycle n same in
-                let need = needs_control e.table given.fit op class in
+                let need = control_need e.table given.fit op class in
                 let is : share e o x given Control r.block n p ≡ (needs_by e.table (Some op)).control =
                 ap (λ (b : Bool). if b && ((issue_at x p).cycle == n) then share_of e.table Control (issue_at x p).instr else 0) here
                 ∙ ap (λ (b : Bool). if b then share_of e.table Control (issue_at x p).instr else 0) now
@@ -359,10 +337,10 @@ module _ (e : Ext) (o : Options) (x : List ℕ) (given : Given e o x)
             (sym (region_close r c mc) ∙ region_close r q mq) in
             omega arith
         by (End Fall) k h = absurd (cc h)
-        by (End (Jump to)) k h = transfer (Jump to) JumpOp k refl refl
-        by (End (Branch pred true to)) k h = transfer (Branch pred true to) JumpIf k refl refl
-        by (End (Branch pred false to)) k h = transfer (Branch pred false to) JumpIfNot k refl refl
-        by (End (Ret value)) k h = transfer (Ret value) Jumpr k refl refl
+        by (End (Jump to)) k h = transfer (Jump to) _ k refl refl
+        by (End (Branch pred true to)) k h = transfer (Branch pred true to) _ k refl refl
+        by (End (Branch pred false to)) k h = transfer (Branch pred false to) _ k refl refl
+        by (End (Ret value)) k h = transfer (Ret value) _ k refl refl
         by In k h = absurd (cc h)
         by (Body so) k h = absurd (cc h)
         by (Copy node) k h = absurd (cc h)

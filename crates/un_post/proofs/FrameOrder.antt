@@ -3,7 +3,8 @@ use Rattle.std.proofs.Common.{ℕ, zero, suc, ◌≡◌, ◌↔◌, ◌+◌, ◌
 use Rattle.std.specs.Prelude.{Some, None, slice_index, not, ◌||◌, ◌&&◌, nat_eq, nat_le, nat_lt, is_some, if◌then◌else◌}
 use Rattle.std.specs.List.{list_all}
 use Rattle.un_isa.specs.declared.op.Op.{Op}
-use Rattle.un_isa.specs.declared.op.Op.TheVariants.{Imm, Call, Enter as EnterOp, Leave as LeaveOp}
+use Rattle.un_isa.specs.declared.op.Op.TheVariants.{Enter as EnterOp, Leave as LeaveOp}
+use Rattle.un_isa.proofs.DoesLaws.{call_is}
 use Rattle.un_ir.specs.declared.extended.ExtKind.{ExtKind}
 use Rattle.un_ir.specs.declared.extended.ExtKind.TheVariants.{In, Out, Body, End, Copy, Enter, Leave}
 use Rattle.un_ir.specs.declared.extended.Ext.{Ext}
@@ -11,7 +12,7 @@ use Rattle.un_ir.specs.Extended.{is_copy, is_enter, is_leave, IsGoodKind, IsSour
 use Rattle.un_domains.specs.declared.domain.Domain.TheVariants.{Range}
 use Rattle.un_model.specs.declared.model.Options.{Options}
 use Rattle.un_model.specs.Instructions.{instruction_of, copy_of}
-use Rattle.un_ir.specs.Kinds.{is_delimiter, is_optional, is_call_op, is_call_kind}
+use Rattle.un_ir.specs.Kinds.{is_delimiter, is_optional, is_call_kind}
 use Rattle.un_model.specs.Schedules.{value_by}
 use Rattle.un_model.specs.Variables.{has_cycle, var_if, cycle_place, carries_truth, instr_domain}
 use Rattle.un_model.proofs.Lists.{Each, Member}
@@ -30,11 +31,6 @@ use Rattle.un_post.proofs.Tests.{iff_then, both, and_iff, lt_iff, le_iff}
 pub all_iff : {A : Type 0} (t : A → Bool) (xs : List A) → Each (λ x. t x ≡ true) xs ↔ (list_all t xs ≡ true)
 all_iff t [] = (λ h. refl, λ h. tt)
 all_iff t (x ∷ xs) = iff_then (both (λ h. h, λ h. h) (all_iff t xs)) (and_iff (t x) (list_all t xs))
-
-call_is : (op : Op) → is_call_op op ≡ true → op ≡ Call
-call_is Call h = refl
-call_is Imm h = absurd (cc h)
-call_is op h = absurd (cc h)
 
 frame_on : (op : Op) (b : Bool) → is_some (if b then None else Some op) ≡ true → (if b then None else Some op) ≡ Some op
 frame_on op true h = absurd (cc h)

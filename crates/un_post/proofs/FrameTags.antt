@@ -4,6 +4,7 @@ use Rattle.std.specs.Prelude.{Option, Some, None, ◌&&◌, nat_le, nat_eq, if�
 use Rattle.un_isa.specs.Facts.{is_source}
 use Rattle.un_isa.specs.declared.op.Op.{Op}
 use Rattle.un_isa.specs.declared.op.Op.TheVariants.{Imm, Call, Spill, Reload, Enter as EnterOp, Leave as LeaveOp}
+use Rattle.un_isa.specs.Does.{is_call}
 use Rattle.un_ir.specs.declared.function.SrcOp.{SrcOp}
 use Rattle.un_ir.specs.declared.function.Term.TheVariants.{Fall, Jump, Branch, Ret}
 use Rattle.un_ir.specs.declared.extended.ExtKind.{ExtKind}
@@ -11,7 +12,7 @@ use Rattle.un_ir.specs.declared.extended.ExtKind.TheVariants.{In, Out, Body, End
 use Rattle.un_ir.specs.Extended.{is_copy, is_enter, is_leave}
 use Rattle.un_model.specs.Instructions.{instruction_of, copy_of}
 use Rattle.un_model.specs.Solutions.{is_frame_access, after_enter, before_leave, frame_distance}
-use Rattle.un_ir.specs.Kinds.{is_call_op, is_call_kind}
+use Rattle.un_ir.specs.Kinds.{is_call_kind}
 
 pub data Tag : Type 0 where
   Enters : Tag
@@ -79,7 +80,7 @@ fits_body so EnterOp h s = absurd (cc s)
 fits_body so Spill h s = absurd (cc s)
 fits_body so Reload h s = absurd (cc s)
 fits_body so LeaveOp h s = absurd (cc s)
-fits_body so Call h s = ap is_call_op h
+fits_body so Call h s = ap is_call h
 fits_body so op h s = tt
 
 fits_frame : (op : Op) (kind : ExtKind) (b : Bool) → Fits (tag (Some op)) kind → Fits (tag (if b then None else Some op)) kind

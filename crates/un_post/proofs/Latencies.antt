@@ -7,10 +7,10 @@ use Rattle.std.specs.Prelude.{Option, Some, None, IfSome, slice_get, slice_index
 use Rattle.std.specs.Option.{option_map}
 use Rattle.un_base.specs.declared.ids.TempId.{TempId}
 use Rattle.un_base.specs.declared.ids.VarId.{VarId}
-use Rattle.un_isa.specs.Facts.{is_source}
 use Rattle.un_isa.specs.declared.op.Op.{Op}
-use Rattle.un_isa.specs.declared.op.Op.TheVariants.{Jump as JumpOp, JumpIf, JumpIfNot, Jumpr, Mov, Spill, Reload, P2R, R2P}
 use Rattle.un_isa.specs.declared.op.Op.TheVariants.{Enter as EnterOp, Leave as LeaveOp}
+use Rattle.un_isa.specs.Does.{is_transfer}
+use Rattle.un_isa.proofs.DoesLaws.{source_stays, copy_stays}
 use Rattle.un_ir.specs.declared.function.Term.TheVariants.{Fall, Jump, Branch, Ret}
 use Rattle.un_ir.specs.declared.extended.NodeCopy.TheVariants.{D, D2, U, U2}
 use Rattle.un_ir.specs.declared.extended.ExtKind.{ExtKind}
@@ -23,7 +23,8 @@ use Rattle.un_model.specs.declared.model.Options.{Options}
 use Rattle.un_model.specs.declared.schedule.Read.{Read}
 use Rattle.un_model.specs.Arcs.{own_instr}
 use Rattle.un_model.proofs.Gaps.{gap_own}
-use Rattle.un_model.specs.Instructions.{instruction_of, copy_of, is_transfer}
+use Rattle.un_model.specs.Instructions.{instruction_of, copy_of}
+use Rattle.un_model.proofs.Transfers.{copy_copies}
 use Rattle.un_ir.specs.Kinds.{is_delimiter, is_optional, has_choices}
 use Rattle.un_model.specs.Schedules.{schedule_of, read_of, value_by, cycle_by}
 use Rattle.un_model.specs.Solutions.{KeepsChoices, KeepsLatencies, IsLive, IsPlaced, IsPlacedAs, IsLast, LeavesGap, latency_gap}
@@ -44,29 +45,12 @@ use Rattle.un_post.proofs.Choices.{value_kind, value_active, lone_value}
 use Rattle.un_post.proofs.Cycles.{cycle_sits}
 use Rattle.un_post.proofs.Meeting.{Met, passes_get, where_on}
 use Rattle.un_post.proofs.Placing.{place_of, definer_at}
-use Rattle.un_post.proofs.Facts.{Given, Reading, falls, good_op, all_member, in_domains, instr_bound, acts, numbers, times, definer_is}
+use Rattle.un_post.proofs.Facts.{Given, Reading, falls, good_op, all_member, in_domains, acts, numbers, times, definer_is}
 use Rattle.un_post.proofs.Facts.{definer_acts, definer_times, choice_var, no_choice, reading, read_range, read_definer, reader_goes}
 use Rattle.un_post.proofs.Tests.{iff_then, iff_back, both, met_one, eq_iff, le_iff, and_iff}
 use Rattle.un_post.proofs.Whole.{Agrees, operands_each, read_each, issues_each, posted_each}
 
 -- ---- places in a block
-
--- no operation but a terminator's ends its block
-no_transfer : (op : Op) → is_source op ≡ true → is_transfer op ≡ false
-no_transfer JumpOp h = absurd (cc h)
-no_transfer JumpIf h = absurd (cc h)
-no_transfer JumpIfNot h = absurd (cc h)
-no_transfer Jumpr h = absurd (cc h)
-no_transfer op h = refl
-
-copy_stays : (n : ℕ) (op : Op) → n ≤ 5 → copy_of n ≡ Some op → is_transfer op ≡ false
-copy_stays zero op le h = absurd (cc h)
-copy_stays (suc zero) op le h = let same : Mov ≡ op = cc h in ap is_transfer (sym same)
-copy_stays (suc (suc zero)) op le h = let same : Spill ≡ op = cc h in ap is_transfer (sym same)
-copy_stays (suc (suc (suc zero))) op le h = let same : Reload ≡ op = cc h in ap is_transfer (sym same)
-copy_stays (suc (suc (suc (suc zero)))) op le h = let same : P2R ≡ op = cc h in ap is_transfer (sym same)
-copy_stays (suc (suc (suc (suc (suc zero))))) op le h = let same : R2P ≡ op = cc h in ap is_transfer (sym same)
-copy_stays (suc (suc (suc (suc (suc (suc n)))))) op le h = absurd (omega arith)
 
 frame_stays : (made op : Op) (b : Bool) → (if b then None else Some made) ≡ Some op → is_transfer made ≡ false → is_transfer op ≡ false
 frame_stays made op true h f = absurd (cc h)
@@ -199,24 +183,23 @@ module _ (e : Ext) (o : Options) (x : List ℕ) (given : Given e o x) where
       by In h = none (instr_is In h) (ap (λ (c : ExtKind). placed_by q c) h)
       by Out h = none (instr_is Out h) (ap (λ (c : ExtKind). placed_by q c) h)
       by (End Fall) h = none (instr_is (End Fall) h) (ap (λ (c : ExtKind). placed_by q c) h)
-      by (End (Jump to)) h = final (End (Jump to)) JumpOp h refl refl refl refl (cycle_is (End (Jump to)) h refl refl) refl
-      by (End (Branch pred true to)) h = final (End (Branch pred true to)) JumpIf h refl refl refl refl
+      by (End (Jump to)) h = final (End (Jump to)) _ h refl refl refl refl (cycle_is (End (Jump to)) h refl refl) refl
+      by (End (Branch pred true to)) h = final (End (Branch pred true to)) _ h refl refl refl refl
           (cycle_is (End (Branch pred true to)) h refl refl) refl
-      by (End (Branch pred false to)) h = final (End (Branch pred false to)) JumpIfNot h refl refl refl refl
+      by (End (Branch pred false to)) h = final (End (Branch pred false to)) _ h refl refl refl refl
           (cycle_is (End (Branch pred false to)) h refl refl) refl
-      by (End (Ret value)) h = final (End (Ret value)) Jumpr h refl refl refl refl (cycle_is (End (Ret value)) h refl refl) refl
+      by (End (Ret value)) h = final (End (Ret value)) _ h refl refl refl refl (cycle_is (End (Ret value)) h refl refl) refl
       by (Body so) h = within (Body so) h refl refl refl (cycle_is (Body so) h refl refl) (λ op i.
           let g = good_op e o x given q m in
           let keeps = g.keeps in
           let source : IsSourceOp so = subst (λ (c : ExtKind). IsGoodKind c q.op) h keeps.kind in
           let made : Some so.op ≡ Some op = sym (instr_is (Body so) h) ∙ i in
           let same : so.op ≡ op = cc made in
-          ap is_transfer (sym same) ∙ no_transfer so.op source.op)
+          ap is_transfer (sym same) ∙ source_stays so.op source.op)
       by (Copy node) h = within (Copy node) h refl refl refl (cycle_is (Copy node) h refl refl) (λ op i.
           let v = vars_of q in
           let number : value_by x v.instr ≡ slice_index x q.first = ap (λ (b : Bool). value_by x (var_if b q.first)) (ap is_optional h) in
-          copy_stays (slice_index x q.first) op (instr_bound e o x given q m (ap is_optional h))
-          (ap copy_of (sym number) ∙ sym (instr_is (Copy node) h) ∙ i))
+          copy_stays op (copy_copies (slice_index x q.first) op (ap copy_of (sym number) ∙ sym (instr_is (Copy node) h) ∙ i)))
       by Enter h = within Enter h refl refl refl (cycle_is Enter h refl refl)
           (λ op i. let v = vars_of q in frame_stays EnterOp op (nat_eq (value_by x v.instr) 0) (sym (instr_is Enter h) ∙ i) refl)
       by Leave h = within Leave h refl refl refl (cycle_is Leave h refl refl)

@@ -9,6 +9,8 @@ use Rattle.un_base.specs.declared.ids.VarId.{VarId}
 use Rattle.un_isa.specs.Tables.{in_mask}
 use Rattle.un_isa.specs.declared.op.Op.{Op}
 use Rattle.un_isa.specs.declared.op.Op.TheVariants.{Call, Mov, Spill, Reload, P2R, R2P, Enter as EnterOp, Leave as LeaveOp}
+use Rattle.un_isa.specs.Does.{is_call}
+use Rattle.un_isa.proofs.DoesLaws.{call_is}
 use Rattle.un_ir.specs.declared.function.Term.TheVariants.{Fall, Jump, Branch, Ret}
 use Rattle.un_ir.specs.declared.extended.ExtKind.{ExtKind}
 use Rattle.un_ir.specs.declared.extended.ExtKind.TheVariants.{In, Out, Body, End, Copy, Enter, Leave}
@@ -33,7 +35,7 @@ use Rattle.un_rect.specs.Spans.{starts, ends, use_time}
 use Rattle.un_rect.specs.declared.clobber.ClobberCall.{ClobberCall}
 use Rattle.un_kinds.specs.Constraints.{Constraint, meets, AllMet, Clobber}
 use Rattle.un_sites.specs.Places.{Place, Definer, definers_of, definer_or}
-use Rattle.un_ir.specs.Kinds.{is_call_kind, is_call_op}
+use Rattle.un_ir.specs.Kinds.{is_call_kind}
 use Rattle.un_sites.specs.Postings.{cycle_var, var_or}
 use Rattle.un_sites.specs.Rooms.{temps_in, users_of, is_before, is_behind, call_at, calls_but, arcs_or, spared_by, spared_at}
 use Rattle.un_sites.specs.Rooms.{spared_in, clobbers_of}
@@ -54,10 +56,6 @@ use Rattle.un_post.proofs.Whole.{issues_each, ranges_each}
 some_op : (a b : Op) → Some a ≡ Some b → a ≡ b
 some_op a b h = cc h
 
-pub call_op : (op : Op) → is_call_op op ≡ true → op ≡ Call
-call_op Call h = refl
-call_op op h = absurd (cc h)
-
 no_copy : (a b c d e : Bool) → (if a then Some Mov else (if b then Some Spill else (if c then Some Reload else (if d then Some P2R else
     (if e then Some R2P else None))))) ≡ Some Call → ⊥
 no_copy true b c d e h = cc h
@@ -75,7 +73,7 @@ no_frame op false n h = n (some_op op Call h)
 call_kind : (kind : ExtKind) (n : ℕ) → instruction_of kind n ≡ Some Call → is_call_kind kind ≡ true
 call_kind In n h = absurd (cc h)
 call_kind Out n h = absurd (cc h)
-call_kind (Body so) n h = ap is_call_op (some_op so.op Call h)
+call_kind (Body so) n h = ap is_call (some_op so.op Call h)
 call_kind (End Fall) n h = absurd (cc h)
 call_kind (End (Jump to)) n h = absurd (cc h)
 call_kind (End (Branch pred true to)) n h = absurd (cc h)
@@ -86,7 +84,7 @@ call_kind Enter n h = absurd (no_frame EnterOp (n == 0) (λ z. cc z) h)
 call_kind Leave n h = absurd (no_frame LeaveOp (n == 0) (λ z. cc z) h)
 
 pub call_instr : (kind : ExtKind) (n : ℕ) → is_call_kind kind ≡ true → instruction_of kind n ≡ Some Call
-call_instr (Body so) n h = ap (λ (op : Op). Some op) (call_op so.op h)
+call_instr (Body so) n h = ap (λ (op : Op). Some op) (call_is so.op h)
 call_instr In n h = absurd (cc h)
 call_instr Out n h = absurd (cc h)
 call_instr (End term) n h = absurd (cc h)

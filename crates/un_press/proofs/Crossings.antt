@@ -10,7 +10,8 @@ use Rattle.un_isa.specs.Tables.{in_mask}
 use Rattle.un_isa.specs.declared.op.Op.{Op}
 use Rattle.un_isa.specs.declared.op.Op.TheVariants.{Call}
 use Rattle.un_isa.specs.declared.reg.TheConstants.{FIRST_SLOT, REGISTERS}
-use Rattle.un_ir.specs.Kinds.{is_call_op, is_call_kind}
+use Rattle.un_isa.proofs.DoesLaws.{call_is}
+use Rattle.un_ir.specs.Kinds.{is_call_kind}
 use Rattle.un_ir.specs.declared.extended.ExtKind.{ExtKind}
 use Rattle.un_ir.specs.declared.extended.ExtKind.TheVariants.{In, Out, Body, End, Copy, Enter, Leave}
 use Rattle.un_ir.specs.declared.extended.Ext.{Ext}
@@ -33,10 +34,6 @@ use Rattle.un_press.proofs.Counting.{Differ, pigeons, length_parts, length_mappe
 use Rattle.un_press.proofs.Descent.{cycle_at, Reader, Held, held}
 
 -- ---- calls
-
-call_is : (op : Op) → is_call_op op ≡ true → op ≡ Call
-call_is Call h = refl
-call_is op h = absurd (cc h)
 
 call_instr : (kind : ExtKind) (n : ℕ) → is_call_kind kind ≡ true → instruction_of kind n ≡ Some Call
 call_instr (Body so) n h = ap (λ (op : Op). Some op) (call_is so.op h)

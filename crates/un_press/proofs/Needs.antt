@@ -7,12 +7,12 @@ use Rattle.std.proofs.lemmas.Bool.Decides.{nat_tests}
 use Rattle.un_base.specs.declared.ids.NameId.{NameId}
 use Rattle.un_isa.specs.Facts.{is_source, operand_spaces}
 use Rattle.un_isa.specs.declared.op.Op.{Op}
-use Rattle.un_isa.specs.declared.op.Op.TheVariants.{Mov, Store, Call, Jump as JumpOp, JumpIf, JumpIfNot, Jumpr, Spill, Reload, P2R, R2P}
-use Rattle.un_isa.specs.declared.op.Op.TheVariants.{Enter as EnterOp, Leave as LeaveOp, Nop}
+use Rattle.un_isa.specs.declared.op.Op.TheVariants.{Mov, Store, Call, Spill, Reload, P2R, R2P}
 use Rattle.un_isa.specs.declared.reg.Space.{Space}
 use Rattle.un_isa.specs.declared.reg.Space.TheVariants.{R, P, M}
 use Rattle.un_isa.specs.declared.reg.TheConstants.{FIRST_SLOT, REGISTERS}
 use Rattle.un_isa.specs.declared.table.Table.{Table}
+use Rattle.un_isa.proofs.DoesLaws.{so_holds}
 use Rattle.un_ir.specs.declared.function.SrcOp.{SrcOp}
 use Rattle.un_ir.specs.declared.function.Term.{Term}
 use Rattle.un_ir.specs.declared.function.Term.TheVariants.{Fall, Jump, Branch, Ret}
@@ -54,15 +54,7 @@ pub gives_register : (op : Op) (dst : Option NameId) → is_source op ≡ true �
     → in_registers (result_space_in op) ≡ true
 gives_register Store None s h lt = absurd (omega (arith, lt))
 gives_register Store (Some name) s h lt = absurd (cc h)
-gives_register JumpOp dst s h lt = absurd (cc s)
-gives_register JumpIf dst s h lt = absurd (cc s)
-gives_register JumpIfNot dst s h lt = absurd (cc s)
-gives_register Jumpr dst s h lt = absurd (cc s)
-gives_register Spill dst s h lt = absurd (cc s)
-gives_register EnterOp dst s h lt = absurd (cc s)
-gives_register LeaveOp dst s h lt = absurd (cc s)
-gives_register Nop dst s h lt = absurd (cc s)
-gives_register op dst s h lt = refl
+gives_register op dst s h lt = so_holds (is_source op) (in_registers (result_space_in op)) refl s
 
 abbrev is_register : Space → Bool
 is_register R = true

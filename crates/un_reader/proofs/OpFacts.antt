@@ -1,6 +1,6 @@
 -- An operation keeps what every operation keeps exactly where its line has no fault, where its names have their places.
 use Rattle.std.proofs.Common.{◌≡◌, ◌≤◌, ◌++◌, true, false, not, List, [], ◌∷◌, Option, Some, None, map, length, if◌then◌else◌, refl, sym}
-use Rattle.std.proofs.Common.{ap}
+use Rattle.std.proofs.Common.{ap, subst, Bool}
 use Rattle.std.proofs.Common.{◌∙◌, arith}
 use Rattle.std.specs.List.{AllByRecursion as Each, list_any, zip}
 use Rattle.std.specs.Option.{option_map, option_map_or, option_to_list}
@@ -11,12 +11,13 @@ use Rattle.un_isa.specs.declared.op.Op.{Op}
 use Rattle.un_isa.specs.declared.op.Op.TheVariants.{Mux}
 use Rattle.un_isa.specs.declared.reg.Space.{Space}
 use Rattle.un_isa.specs.declared.facts.Range.{Range}
-use Rattle.un_isa.specs.Facts.{Operands, Fixed, Arguments, facts_of, fixed_spaces, result_space, literal_range}
+use Rattle.un_isa.specs.Facts.{Operands, Fixed, Arguments, facts_of, fixed_spaces, operand_spaces, result_space, literal_range}
 use Rattle.un_isa.specs.Operands.{IsLiteralOf}
 use Rattle.un_faults.specs.Vocabulary.{Kind, General, Pred, Number, OpLine, Spelled}
 use Rattle.un_ir.specs.Names.{kind_of}
 use Rattle.un_ir.specs.WellFormed.{kind_in, takes_arguments, IsOfKind, AreRead, IsAssigned, IsGoodOp}
 use Rattle.un_ir.specs.declared.function.TheConstants.{PARAMS}
+use Rattle.un_ir.proofs.SourceFacts.{call_arguments}
 use Rattle.un_words.specs.Shapes.{result_by}
 use Rattle.un_faults.specs.Before.{same_kind}
 use Rattle.un_faults.specs.LineFaults.{is_predicate, misfits, operands_clash, result_clashes}
@@ -148,6 +149,11 @@ has_literal : (literal : Option Range) (n : Number)
 has_literal None n fits lacks = ap literal_value lacks
 has_literal (Some range) n fits lacks = (decides range (literal_value n)).0 fits
 
+-- no operand is of the wrong kind, where a call takes words
+abbrev clashes : OpLine → Bool → Type 0
+clashes o call = (if call then list_any is_predicate o.srcs else list_any (λ (p : Space × Spelled). misfits p.0 p.1)
+    (zip (operand_spaces o.op) o.srcs)) ≡ false
+
 -- what an operation's line without a fault says of its operation
 pub op_good : (names : List Spelled) (o : OpLine) → IsShapedOp o → Each (IsKnown names) (option_to_list o.dst ++ o.srcs)
     → result_clashes o.op o.dst ≡ false → operands_clash o.op o.srcs ≡ false → length o.srcs ≤ PARAMS → literal_fits o.op o.imm ≡ true
@@ -155,10 +161,12 @@ pub op_good : (names : List Spelled) (o : OpLine) → IsShapedOp o → Each (IsK
 op_good names o s known result operands few literal = record {
   op = s.text;
   reads =
-      are_read names (facts_of o.op).operands o.srcs s.count operands few (Each-right (IsKnown names) (option_to_list o.dst) o.srcs known);
+      are_read names (facts_of o.op).operands o.srcs s.count (subst (clashes o) (call_arguments o.op) operands) few
+      (Each-right (IsKnown names) (option_to_list o.dst) o.srcs known);
   assigns =
       is_assigned names (facts_of o.op).operands (result_space o.op) o.dst
-      (Each-left (IsKnown names) (option_to_list o.dst) o.srcs known) s.result result;
+      (Each-left (IsKnown names) (option_to_list o.dst) o.srcs known)
+      (subst (λ (c : Bool). result_by c (result_space o.op) o.dst ≡ true) (call_arguments o.op) s.result) result;
   literal = has_literal (literal_range o.op) o.imm literal s.literal;
   callee = s.callee;
 }
@@ -184,7 +192,7 @@ op_told names o known good =
       result =
           assigned_is names (facts_of o.op).operands (result_space o.op) o.dst
           (Each-left (IsKnown names) (option_to_list o.dst) o.srcs known) good.assigns;
-      operands = r.0;
+      operands = subst (clashes o) (sym (call_arguments o.op)) r.0;
       few = r.1;
       literal = literal_in (literal_range o.op) o.imm good.literal;
     }

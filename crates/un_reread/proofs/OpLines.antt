@@ -1,6 +1,6 @@
 -- What is read of the line of an operation.
 use Rattle.std.proofs.Common.{◌≡◌, ℕ, ℤ, ◌≤◌, ◌++◌, true, List, [], ◌∷◌, map, length, drop, Option, Some, None, option_map, IfSome}
-use Rattle.std.proofs.Common.{if◌then◌else◌, refl, sym, ap, ◌∙◌, arith}
+use Rattle.std.proofs.Common.{if◌then◌else◌, Bool, refl, sym, ap, subst, ◌∙◌, arith}
 use Rattle.std.proofs.lemmas.List.{length-map}
 use Rattle.std.proofs.lemmas.List.Elements.{All-head, All-tail}
 use Rattle.un_faults.specs.Vocabulary.{NameId, Kind, SrcOp, Number, Token, OpLine, Operation, Spelled}
@@ -11,13 +11,15 @@ use Rattle.un_isa.specs.declared.reg.Space.{Space}
 use Rattle.un_isa.specs.declared.facts.Range.{Range}
 use Rattle.un_isa.specs.Facts.{Operands, Fixed, Arguments, facts_of, fixed_spaces, result_space, literal_range, is_source, source_name}
 use Rattle.un_isa.specs.Operands.{IsLiteralOf}
+use Rattle.un_isa.specs.Does.{is_call}
 use Rattle.un_ir.specs.Names.{kind_of}
 use Rattle.un_ir.specs.Text.{Names, op_line, name_text, literal_text, with_literal, operand_texts}
 use Rattle.un_ir.specs.WellFormed.{IsName, IsOfKind, kind_in, takes_arguments, AreRead, IsAssigned, IsCallee, IsGoodOp}
+use Rattle.un_ir.proofs.SourceFacts.{call_arguments}
 use Rattle.un_words.specs.declared.token.Token.TheVariants.{Named, Literal, Word}
 use Rattle.un_words.specs.declared.slot.Head.TheVariants.{Bare}
 use Rattle.un_words.specs.Shapes.{word_at, names_at, literal_at, have_forms, op_named, head_word, slots_by, result_by, is_call_list}
-use Rattle.un_words.specs.Shapes.{result_fits, operands_fit, op_line_of, op_shape, shape_of}
+use Rattle.un_words.specs.Shapes.{slots_of, result_fits, operands_fit, op_line_of, op_shape, shape_of}
 use Rattle.un_reread.specs.Printed.{spelled_at, as_number, op_as_line}
 use Rattle.un_reread.proofs.WordsOf.{AllSay, IsLine, is_line}
 use Rattle.un_reread.proofs.NamesAt.{AreNames, name_at_says}
@@ -211,16 +213,23 @@ module _ (names : Names) (o : SrcOp) (all : AreNames names) (good : IsGoodOp nam
     few = few_tokens names operands literal o.srcs (as_number o.imm) (has_room o.op) good.reads;
     kind = assigned_kind names operands (result_space o.op) o.dst good.assigns;
     callee = callee_named operands o.callee good.callee;
-    result = result_there names operands (result_space o.op) o.dst good.assigns;
-    forms = forms_by names operands literal o.callee o.srcs (as_number o.imm) (source_name o.op) (has_room o.op) good.callee good.reads;
+    result = subst (λ (c : Bool). result_by c (result_space o.op) (option_map (spelled_at names) o.dst) ≡ true) (sym takes)
+        (result_there names operands (result_space o.op) o.dst good.assigns);
+    forms = subst (λ (c : Bool). (if c then is_call_list (behind o (tokens names o)) else have_forms (slots_of o.op)
+        (drop 1 (behind o (tokens names o)))) ≡ true) (sym takes)
+        (forms_by names operands literal o.callee o.srcs (as_number o.imm) (source_name o.op) (has_room o.op) good.callee good.reads);
     line = same_line o.op (option_map (spelled_at names) o.dst) _ ns _ (as_number o.imm) _ o.callee
         (names_behind o.callee (joined (tokens names o)) ∙ names_joined (tokens names o) ∙ names_there literal ns (as_number o.imm))
         (literal_behind o.callee (joined (tokens names o)) ∙ literal_joined (tokens names o) ∙ literal_back literal ns o.imm good.literal)
-        (callee_back operands o.callee (source_name o.op) (joined (tokens names o)) good.callee);
+        (ap (λ (c : Bool). if c then word_at 1 (behind o (tokens names o)) else None) takes
+        ∙ callee_back operands o.callee (source_name o.op) (joined (tokens names o)) good.callee);
   }
     where
       operands : Operands
       operands = (facts_of o.op).operands
+
+      takes : is_call o.op ≡ takes_arguments operands
+      takes = call_arguments o.op
 
       literal : Option Range
       literal = literal_range o.op

@@ -1,16 +1,18 @@
 //! Whether a schedule keeps the clauses of a solution that ask for one operation, read or temporary at a time.
 
 ghost use Rattle.std.specs.Prelude.{◌≡◌, ℕ, ◌+◌, ◌<◌, ◌≤◌, ◌↔◌, ◌⊎◌, IsTrue, true, All, Contains, IfSome, length, slice_get};
-ghost use Rattle.un_model.specs.Instructions.{is_transfer, space_read, space_given};
+ghost use Rattle.un_model.specs.Instructions.{space_read, space_given};
+ghost use Rattle.un_isa.specs.Does.{is_transfer};
 ghost use Rattle.un_model.specs.Solutions.{InDomain, KeepsDomains, IsIdleAtZero, IsZeroRange, IsLive, InSpace, ReadsInSpace};
 ghost use Rattle.un_model.specs.Solutions.{IsGivenInSpace, IsLast, IsWithin, IsPlacedAs, IsPlaced, LeavesGap, latency_gap, HasHome};
 ghost use Rattle.un_model.specs.Solutions.{ReadsHome};
 
 use un_domains::domain::Domain;
+use un_isa::does::is_transfer;
 use un_isa::op::Op;
 use un_isa::reg::{Reg, Space, space_of};
 use un_isa::table::Table;
-use un_model::instructions::{gap, is_transfer, space_given, space_read};
+use un_model::instructions::{gap, space_given, space_read};
 use un_model::schedule::{Issue, LiveRange, Read};
 
 /// Whether a value is in a domain.

@@ -1,6 +1,6 @@
 -- What the shape of an operation's line says of its operation: how many operands there are, and where a literal and a callee stand.
 use Rattle.std.proofs.Common.{◌≡◌, ℕ, ◌&&◌, Bool, true, false, List, [], ◌∷◌, ◌++◌, length, filter, Option, Some, None, if◌then◌else◌, refl}
-use Rattle.std.proofs.Common.{◌∙◌}
+use Rattle.std.proofs.Common.{◌∙◌, sym, subst}
 use Rattle.std.specs.List.{AllByRecursion as Each, find}
 use Rattle.std.specs.Option.{option_and_then, option_to_list}
 use Rattle.std.specs.Str.{bytes_eq}
@@ -8,6 +8,7 @@ use Rattle.un_isa.specs.declared.op.Op.{Op}
 use Rattle.un_isa.specs.declared.facts.Range.{Range}
 use Rattle.un_isa.specs.Facts.{Operands, Fixed, Arguments, facts_of, fixed_spaces, literal_range, all_ops, is_source, source_name}
 use Rattle.un_ir.specs.WellFormed.{takes_arguments, IsCallee, NamesItsCallee}
+use Rattle.un_ir.proofs.SourceFacts.{call_arguments}
 use Rattle.un_words.specs.declared.token.Number.{Number}
 use Rattle.un_words.specs.declared.token.Token.{Token}
 use Rattle.un_words.specs.declared.token.Token.TheVariants.{Word}
@@ -16,7 +17,7 @@ use Rattle.un_words.specs.declared.line.Line.{Line}
 use Rattle.un_words.specs.declared.line.Line.TheVariants.{Operation}
 use Rattle.un_words.specs.Tokens.{Spelled}
 use Rattle.un_words.specs.Shapes.{word_at, names_at, zero_number, literal_at, have_forms, op_named, slots_by, result_fits, is_call_list}
-use Rattle.un_words.specs.Shapes.{operands_fit, op_line_of, op_shape, operation_shape}
+use Rattle.un_words.specs.Shapes.{slots_of, operands_fit, op_line_of, op_shape, operation_shape}
 use Rattle.un_words.proofs.TokenFacts.{IfThere, IsSpelled, IsGoodToken, names_there}
 use Rattle.un_words.proofs.SlotFacts.{are_formed, count_names, no_literal, count_slots, names_alone, list_literal}
 
@@ -99,7 +100,9 @@ op_shaped dst d word ts g op is = by (result_fits op dst) refl (operands_fit op 
     by false e w f = tt
     by true e false f = tt
     by true e true f =
-        let b = behind (facts_of op).operands (literal_range op) word ts g f in
+        let takes = call_arguments op in
+        let fits = subst (λ (c : Bool). (if c then is_call_list (Word word ∷ ts) else have_forms (slots_of op) ts) ≡ true) takes f in
+        let b = behind (facts_of op).operands (literal_range op) word ts g fits in
         record {
           text =
               is;
@@ -108,7 +111,8 @@ op_shaped dst d word ts g op is = by (result_fits op dst) refl (operands_fit op 
           spelled = spelled_result dst (names_at ts) d (names_there ts g);
           count = b.count;
           literal = b.lacks;
-          callee = b.callee;
+          callee =
+              subst (λ (c : Bool). IsCallee (facts_of op).operands (if c then word_at 1 (Word word ∷ ts) else None)) (sym takes) b.callee;
         }
 
 pub operation_shaped : (dst : Option Spelled) → IfThere IsSpelled dst → (ts : List Token) → Each IsGoodToken ts

@@ -7,8 +7,8 @@ use Rattle.std.specs.Str.{bytes_eq}
 use Rattle.un_isa.specs.declared.op.Op.{Op}
 use Rattle.un_isa.specs.declared.reg.Space.{Space}
 use Rattle.un_isa.specs.declared.facts.Range.{Range}
+use Rattle.un_isa.specs.Does.{is_call}
 use Rattle.un_isa.specs.Facts.{all_ops, operand_spaces, result_space, literal_range, is_source, source_name}
-use Rattle.un_ir.specs.WellFormed.{is_call}
 use Rattle.un_ir.specs.Text.{with_literal}
 use Rattle.un_words.specs.declared.token.Number.{Number}
 use Rattle.un_words.specs.declared.token.Token.{Token}

@@ -3,7 +3,6 @@
 ghost use Rattle.std.specs.Prelude.{◌≡◌, ◌==◌, ◌&&◌, codes, IfOk, drop, slice_get, false};
 ghost use Rattle.std.specs.Option.{option_and_then, option_map_or};
 ghost use Rattle.std.specs.Str.{bytes_eq};
-ghost use Rattle.un_ir.specs.WellFormed.{is_call};
 ghost use Rattle.un_words.specs.Shapes.{is_slot, word_at, text_ops, op_named, slots_of, result_fits, operands_fit, callee_of, op_line_of};
 ghost use Rattle.un_words.specs.Shapes.{op_shape, operation_shape, func_shape, block_shape, jump_shape, branch_shape, return_shape};
 ghost use Rattle.un_words.specs.Shapes.{assigned_shape, head_word, head_of, shape_by, shape_of};
@@ -19,6 +18,7 @@ use std::alloc::Global;
 use un_base::memory_error::NoMemory;
 use un_base::name::Name;
 use un_ir::function::Kind;
+use un_isa::does::is_call;
 use un_isa::facts::{result_space, source_name};
 use un_isa::op::Op;
 
@@ -92,20 +92,6 @@ fn slots(op: Op) -> &'static [Slot]
             Slot::Comma,
             Slot::Named,
         ],
-    }
-}
-
-/// Whether the operation calls a function.
-pub fn is_call(op: Op) -> bool
-    ensures { result ≡ is_call op }
-{
-    match op {
-        Op::Call => true,
-        Op::Imm | Op::Mov | Op::Add | Op::Sub | Op::And | Op::Or | Op::Xor | Op::Addi => false,
-        Op::Andi | Op::Ori | Op::Mux | Op::CmpEq | Op::CmpGt | Op::CmpGtu | Op::CmpEqi => false,
-        Op::CmpGti | Op::Mpyi | Op::Asl | Op::Asr | Op::Lsr | Op::Load | Op::Store => false,
-        Op::Jump | Op::JumpIf | Op::JumpIfNot | Op::Jumpr | Op::Spill | Op::Reload => false,
-        Op::P2R | Op::R2P | Op::Enter | Op::Leave | Op::Nop => false,
     }
 }
 

@@ -1,6 +1,6 @@
 -- A jump's label is looked up in the set.
 use Rattle.std.proofs.Common.{rules, ◌≡◌, true}
-use Rattle.un_packet.specs.CodeRules.{is_jump}
+use Rattle.un_isa.specs.Does.{is_jump}
 use Rattle.un_listing_reader.proofs.Judged.{leads_some}
 use Rattle.un_listing_reader.proofs.judge.leads.Goals as goal
 

@@ -3,10 +3,11 @@ use Rattle.un_isa.specs.declared.table.Table.{Table}
 use Rattle.un_isa.specs.declared.start.Reply.{Reply}
 use Rattle.un_isa.specs.declared.instr.Instr.{Instr}
 use Rattle.un_isa.specs.declared.outcome.CallRecord.{CallRecord}
+use Rattle.un_isa.specs.Does.{is_return}
 use Rattle.un_packet.specs.declared.pass.Passed.{Passed}
 use Rattle.un_packet.specs.declared.pass.Transfer.{Transfer}
 use Rattle.un_packet.specs.Passes.{IsPassed, led}
-use Rattle.un_packet.specs.Step.{PacketState, after, answered, issue_cycle, is_return, leads, record_of, with_call}
+use Rattle.un_packet.specs.Step.{PacketState, after, answered, issue_cycle, leads, record_of, with_call}
 use Rattle.un_packet.proofs.state.State.complete_call.Goals as goal
 
 module _ (t : Table) (i : Instr) (s mid new : PacketState) (is : List Instr) (call : CallRecord) (transfer : Transfer)

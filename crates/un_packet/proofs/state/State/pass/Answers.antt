@@ -2,9 +2,9 @@ use Rattle.std.proofs.Common.{◌≡◌, Bool, true, false}
 use Rattle.std.specs.Prelude.{◌||◌}
 use Rattle.std.specs.Bool.{OnTrue}
 use Rattle.un_isa.specs.declared.instr.Instr.{Instr}
-use Rattle.un_packet.specs.CodeRules.{is_jump, IsThere}
+use Rattle.un_isa.specs.Does.{is_jump, is_call}
+use Rattle.un_packet.specs.CodeRules.{IsThere}
 use Rattle.un_packet.specs.Runnable.{IsRunnable}
-use Rattle.un_packet.specs.Step.{is_call}
 use Rattle.un_packet.proofs.Found.{found}
 use Rattle.un_packet.proofs.state.State.pass.Goals as goal
 
