@@ -90,6 +90,11 @@ counted_all text count left h none = record {
   counted = h.counted;
 }
 
+-- no list of nodes has these lines where the first of those left is no node's
+pub none_counted : (text : List ℕ) (count : ℕ) (left : List ℕ) → AreCounted text count left → (left ≡ [] → ⊥) → BeginsNoNode left
+    → (nodes : List Node) → All Fits nodes → text ≡ tree_text nodes → ⊥
+none_counted text count left h some bad nodes fit is = some (all_read text h.before nodes left h.whole h.fit fit is (inr bad)).0
+
 -- lines are those of one list of nodes
 pub lines_one : (text : List ℕ) (a b : List Node) → All Fits a → All Fits b → text ≡ tree_text a → text ≡ tree_text b → a ≡ b
 lines_one text a b f g x y = (all_read text a b [] (x ∙ sym (append_nil (tree_text a))) f g y (inl refl)).1

@@ -1,6 +1,6 @@
 //! A search's room: stores, and the decisions that lead to their sets.
 
-ghost use Rattle.std.specs.Prelude.{◌≡◌, ℕ, ◌+◌, ◌<◌, ◌≤◌, List, [], ◌∷◌, ◌++◌, All, length, take, Some, None, IfOk, OnOk, IsTrue, ◌↔◌};
+ghost use Rattle.std.specs.Prelude.{◌≡◌, ℕ, ◌+◌, ◌<◌, ◌≤◌, List, [], ◌∷◌, ◌++◌, All, length, take, Some, None, IfOk, OnOk, IsTrue, ◌↔◌, ◌≢◌, slice_get};
 ghost use Rattle.un_tree.specs.Boxes.{IsBox, Splits, decided, reached};
 ghost use Rattle.un_tree.specs.Searched.{HasTwo, IsOpenBox};
 ghost use Rattle.un_branching.specs.Searched.{IsLook, IsExpansion, WhenOpen};
@@ -24,7 +24,7 @@ pub struct Levels<S> {
 
 /// Whether two decisions are the same.
 fn is_same(a: Decision, b: Decision) -> bool
-    ensures { IsTrue result → a ≡ b }
+    ensures { IsTrue result ↔ a ≡ b }
 {
     let side = match (a.side, b.side) {
         (Side::AtMost, Side::AtMost) => true,
@@ -39,6 +39,7 @@ fn is_same(a: Decision, b: Decision) -> bool
 fn shared(a: &[Decision], b: &[Decision]) -> usize
     ensures within { result ≤ length a.now }
     ensures same { take result a.now ≡ take result b.now }
+    ensures most { result < length a.now → result < length b.now → slice_get a.now result ≢ slice_get b.now result }
 {
     let mut count = 0;
     while count < a.len() && count < b.len() {

@@ -1,4 +1,5 @@
 pub mod Lowering
 pub mod Merging
+pub mod NoMergePins
 pub mod Passes
 pub mod Pins

@@ -15,7 +15,7 @@ chosen = record { instr = None; cycle = None; choices = (record { 0 = 1 }) ∷ [
 abbrev small : BlockVars
 small = record { ops = issued 0 ∷ chosen ∷ issued 2 ∷ []; end = record { 0 = 3 } }
 
-abbrev with_values : List ℕ → Solution
+abbrev pub with_values : List ℕ → Solution
 with_values values = record { values = values }
 
 -- the cycle 3 and the end 4 fall; the choice 7, the cycle 1 and what is no variable of the block stay

@@ -35,6 +35,7 @@ pub mod OfPlaces
 pub mod OfRooms
 pub mod OneEnter
 pub mod Overfull
+pub mod OverfullPins
 pub mod Packets
 pub mod Placing
 pub mod Posted

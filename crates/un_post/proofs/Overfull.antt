@@ -22,7 +22,6 @@ use Rattle.un_kinds.specs.declared.any.AnyProp.{AnyProp}
 use Rattle.un_kinds.proofs.Rising.{among_own}
 use Rattle.un_post.specs.Posts.{IsGrounded, IsOverfull}
 use Rattle.un_post.proofs.LeastValues.{leasts, least_at, leasts_in}
-use Rattle.un_post.proofs.Tests.{le_iff}
 
 -- ---- parts
 
@@ -61,15 +60,14 @@ module _ (p : AnyProp) (u : Sets) (known : HasVars (scope_of p) u) (some : NoneE
     same_set w lt one = single_below u s w.0 below (some w.0 lt) one
 
     pub not_overfull : (c : Constraint) → constraint_of p ≡ c → IsScope (scope_of p) (vars_of c) → IsOverfull s c → ⊥
-    not_overfull (Across call sure room) is scope lt =
+    not_overfull (Across call sure room) is scope full =
         let alone : All (λ (w : VarId). w.0 ≢ call.0 → length (set_at u w.0) ≡ 1) (scope_of p) = λ i d k ne.
         let w = get_or (scope_of p) i d in
         let there : among (call ∷ []) w ≡ true = sym (scope.same w) ∙ among_own (scope_of p) i d k in
         absurd (ne (the_one call w there)) in
         let holds : meets (Across call sure room) (leasts u) ≡ true = ap (λ (c : Constraint). meets c (leasts u)) (sym is)
         ∙ stable_holds call.0 (leasts u) alone (leasts_in u some) in
-        let le = (le_iff sure room).1 holds in
-        omega (arith, le, lt)
+        absurd (cc (sym full ∙ holds))
       where
         the_one : (v w : VarId) → among (v ∷ []) w ≡ true → w.0 ≡ v.0
         the_one v w h = by (nat_eq v.0 w.0) refl h

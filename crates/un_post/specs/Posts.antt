@@ -60,7 +60,7 @@ AreSingle s vs = All (λ (v : VarId). length (set_at s v.0) ≡ 1) vs
 -- more values cross a call than there is room for; or the cycles of all values of a block have one value each, and in one cycle more
 -- values are there than there is room for
 abbrev pub IsOverfull : Sets → Constraint → Type 0
-IsOverfull s (Across call sure room) = room < sure
+IsOverfull s (Across call sure room) = meets (Across call sure room) (point s) ≡ false
 IsOverfull s (Live values room horizon) =
     AreSingle s (vars_of (Live values room horizon)) × (meets (Live values room horizon) (point s) ≡ false)
 IsOverfull s _ = ⊥

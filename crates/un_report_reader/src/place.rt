@@ -1,6 +1,6 @@
 //! A place in a text: what is left of it, and how many lines stand before.
 
-ghost use Rattle.std.specs.Prelude.{◌≡◌, ◌+◌, IfOk, IfErr};
+ghost use Rattle.std.specs.Prelude.{◌≡◌, ◌+◌, ◌<◌, ◌^◌, IfOk, IfErr};
 ghost use Rattle.un_report_reader.specs.declared.error.ReportError.TheVariants as Error;
 ghost use Rattle.un_report_reader.specs.Errors.{Names};
 
@@ -30,7 +30,8 @@ pub(crate) fn behind<'a>(
 
 /// The answer where a line is bad, counted from a place. A number that is too large for a line is answered as want of memory.
 pub(crate) fn bad_line(at: Place, line: u32) -> ReportError
-    ensures { Names (at.entry.lines + line) result }
+    ensures bad { Names (at.entry.lines + line) result }
+    ensures exact { at.entry.lines + line < 2 ^ 32 → result ≡ Error.BadReport (at.entry.lines + line) }
 {
     match at.lines.checked_add(line) {
         Some(line) => ReportError::BadReport { line },

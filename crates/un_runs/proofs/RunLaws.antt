@@ -8,14 +8,37 @@ use Rattle.un_ir.specs.declared.function.Function.{Function}
 use Rattle.un_packet.specs.Ends.{IsOutcome}
 use Rattle.un_packet.specs.Run.{packet_run}
 use Rattle.un_packet.specs.declared.code.Code.{Code}
-use Rattle.un_reader.specs.Read.{IsRead}
-use Rattle.un_listing_reader.specs.Reading.{IsListingOf, IsFirstBad as IsBadListing}
-use Rattle.un_start.specs.StartTexts.{IsStartText, IsFirstBad as IsBadStart}
+use Rattle.un_reader.specs.Errors.{Tells}
+use Rattle.un_reader.specs.Read.{IsRead, IsTextFault}
+use Rattle.un_reader.specs.declared.error.ReadError.{ReadError}
+use Rattle.un_reader.specs.declared.error.ReadError.TheVariants.{NoMemory as NoReadMemory, TextFault as Faulty}
+use Rattle.un_listing_reader.specs.declared.read.ListingError.{ListingError}
+use Rattle.un_listing_reader.specs.declared.read.ListingError.TheVariants.{NoMemory as NoListingMemory, BadListing}
+use Rattle.un_start.specs.declared.read.StartError.{StartError}
+use Rattle.un_start.specs.declared.read.StartError.TheVariants.{NoMemory as NoStartMemory, BadStart}
+use Rattle.un_listing_reader.specs.Reading.{IsListingOf, IsFirstBad as IsBadListing, IsErrorOf as IsListingError}
+use Rattle.un_start.specs.StartTexts.{IsStartText, IsFirstBad as IsBadStart, IsErrorOf as IsStartError}
 use Rattle.un_runs.specs.declared.refused.Refused.{Refused}
 use Rattle.un_runs.specs.declared.refused.Refused.TheVariants.{NoMemory, TextFault, BadSecond}
 use Rattle.un_runs.specs.Inputs.{first_part, second_part}
-use Rattle.un_runs.specs.Refusals.{RefusesFunction, RefusesStart, RefusesListing, RefusesFor, RefusesSource, RefusesCode, IsTight, IsRoomy, IsFaultOf, IsBadFor}
+use Rattle.un_runs.specs.Refusals.{function_refused, start_refused, listing_refused, RefusesFunction, RefusesStart, RefusesListing, RefusesFor, RefusesSource, RefusesCode, IsTight, IsRoomy, IsFaultOf, IsBadFor}
 use Rattle.un_runs.specs.Shown.{has_room, IsRunOf, IsSourceRun, IsRunOfCode, IsCodeRun}
+
+-- ---- what a reader finds
+
+pub function_is_refused : (text : List ℕ) (e : ReadError) → Tells (IsTextFault text) e → RefusesFunction text (function_refused e)
+function_is_refused text NoReadMemory h = tt
+function_is_refused text (Faulty line code) h = record { fault = h.0; is = h.2; coded = h.1 }
+
+pub start_is_refused : (text : List ℕ) (e : StartError) → IsStartError text e → RefusesStart text (start_refused e)
+start_is_refused text NoStartMemory h = tt
+start_is_refused text (BadStart line) h = h
+
+pub listing_is_refused : (text : List ℕ) (e : ListingError) → IsListingError text e → RefusesListing text (listing_refused e)
+listing_is_refused text NoListingMemory h = tt
+listing_is_refused text (BadListing line) h = h
+
+-- ---- functions and starts
 
 pub source_first : (input part : List ℕ) (e : Refused) → part ≡ first_part input → RefusesFunction part e → RefusesSource input e
 source_first input part NoMemory is h = tt

@@ -9,10 +9,29 @@ use Rattle.un_packet.specs.declared.code.Code.{Code}
 use Rattle.un_reader.specs.Read.{IsRead, IsTextFault}
 use Rattle.un_listing_reader.specs.Reading.{IsListingOf, IsFirstBad as IsBadListing}
 use Rattle.un_start.specs.StartTexts.{IsStartText, IsFirstBad as IsBadStart}
+use Rattle.un_listing_reader.specs.declared.read.ListingError.{ListingError}
+use Rattle.un_listing_reader.specs.declared.read.ListingError.TheVariants.{NoMemory as NoListingMemory, BadListing}
+use Rattle.un_reader.specs.declared.error.ReadError.{ReadError}
+use Rattle.un_reader.specs.declared.error.ReadError.TheVariants.{NoMemory as NoReadMemory, TextFault as Faulty}
+use Rattle.un_start.specs.declared.read.StartError.{StartError}
+use Rattle.un_start.specs.declared.read.StartError.TheVariants.{NoMemory as NoStartMemory, BadStart}
 use Rattle.un_runs.specs.declared.refused.Refused.{Refused}
 use Rattle.un_runs.specs.declared.refused.Refused.TheVariants.{NoMemory, TextFault, BadSecond}
 use Rattle.un_runs.specs.Inputs.{first_part, second_part}
 use Rattle.un_runs.specs.Shown.{has_room}
+
+-- the answer to what a reader of functions, of starts or of listings finds
+abbrev pub function_refused : ReadError → Refused
+function_refused NoReadMemory = NoMemory
+function_refused (Faulty line code) = TextFault line code
+
+abbrev pub start_refused : StartError → Refused
+start_refused NoStartMemory = NoMemory
+start_refused (BadStart line) = BadSecond line
+
+abbrev pub listing_refused : ListingError → Refused
+listing_refused NoListingMemory = NoMemory
+listing_refused (BadListing line) = BadSecond line
 
 -- the line and the code of a text's first fault
 pub record IsFaultOf (text : List ℕ) (line code : ℕ) : Type 0 where

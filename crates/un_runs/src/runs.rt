@@ -1,17 +1,18 @@
 //! Runs and generated functions as text.
 
-ghost use Rattle.std.specs.Prelude.{◌≡◌, ◌<◌, ◌≤◌, true, count_by, take, IfOk, IfErr};
+ghost use Rattle.std.specs.Prelude.{◌≡◌, ◌<◌, ◌≤◌, ◌^◌, true, count_by, take, IfOk, IfErr};
 ghost use Rattle.std.specs.List.{concat};
 ghost use Rattle.un_base.specs.Lines.{is_line_feed, pieces_of};
 ghost use Rattle.un_ir.specs.declared.function.TheConstants.{BLOCKS};
 ghost use Rattle.un_listing_reader.specs.Reading.{IsListingOf};
 ghost use Rattle.un_reader.specs.Read.{IsRead};
 ghost use Rattle.un_start.specs.StartTexts.{IsStartText, IsFirstBad};
+ghost use Rattle.un_runs.specs.declared.refused.Refused.TheVariants as Refused;
 ghost use Rattle.un_runs.specs.Refusals.{RefusesFunction, RefusesStart, RefusesListing, IsTight, RefusesFor, RefusesSource, RefusesCode};
 ghost use Rattle.un_runs.specs.Shown.{has_room, IsRunOf, IsSourceRun, IsRunOfCode, IsCodeRun, IsGeneratedText};
 
 use crate::input::split;
-use crate::refused::Refused;
+use crate::refused::{Refused, function_refused, listing_refused, start_refused};
 use std::alloc::Global;
 use un_base::memory_error::NoMemory;
 use un_base::numbers::number;
@@ -21,49 +22,48 @@ use un_ir::print::print_function;
 use un_isa::reg::{REGISTERS, STACK};
 use un_isa::start::Start;
 use un_isa::table::hexagon;
-use un_listing_reader::read::{ListingError, read_code};
+use un_listing_reader::read::read_code;
 use un_outcome::print::print_outcome;
 use un_packet::code::Code;
 use un_packet::run::run_packets;
-use un_reader::error::ReadError;
 use un_reader::read::read_function;
 use un_source::run::run_source;
 use un_start::read::{StartError, read_start};
 use un_words::pieces::first_len;
 
 /// The function of a text.
+#[tactic(auto, using(crate::proofs::RunLaws::function_is_refused))]
 fn function_of(alloc: Global, text: &[u8]) -> Result<Function, Refused>
     ensures ok { IfOk result (IsRead text.now) }
     ensures refused { IfErr result (RefusesFunction text.now) }
 {
     match read_function(alloc, text) {
         Ok(f) => Ok(f),
-        Err(ReadError::NoMemory) => Err(Refused::NoMemory),
-        Err(ReadError::TextFault { line, code }) => Err(Refused::TextFault { line, code }),
+        Err(error) => Err(function_refused(error)),
     }
 }
 
 /// The start of a text, with the number of blocks.
+#[tactic(auto, using(crate::proofs::RunLaws::start_is_refused))]
 fn start_of(alloc: Global, text: &[u8]) -> Result<(Start, u32), Refused>
     ensures ok { IfOk result (λ read. IsStartText text.now read.0 read.1) }
     ensures refused { IfErr result (RefusesStart text.now) }
 {
     match read_start(alloc, text) {
         Ok(read) => Ok(read),
-        Err(StartError::NoMemory) => Err(Refused::NoMemory),
-        Err(StartError::BadStart { line }) => Err(Refused::BadSecond { line }),
+        Err(error) => Err(start_refused(error)),
     }
 }
 
 /// The code of a listing.
+#[tactic(auto, using(crate::proofs::RunLaws::listing_is_refused))]
 fn code_of(alloc: Global, text: &[u8]) -> Result<Code, Refused>
     ensures ok { IfOk result (IsListingOf text.now) }
     ensures refused { IfErr result (RefusesListing text.now) }
 {
     match read_code(alloc, text) {
         Ok(code) => Ok(code),
-        Err(ListingError::NoMemory) => Err(Refused::NoMemory),
-        Err(ListingError::BadListing { line }) => Err(Refused::BadSecond { line }),
+        Err(error) => Err(listing_refused(error)),
     }
 }
 
@@ -110,7 +110,8 @@ fn feed_count(text: &[u8]) -> usize
 
 /// The answer where a start has no room.
 fn no_room(text: &[u8]) -> Refused
-    ensures { IsTight text.now result }
+    ensures tight { IsTight text.now result }
+    ensures exact { count_by is_line_feed text.now < 2 ^ 32 → result ≡ Refused.BadSecond (count_by is_line_feed text.now) }
 {
     match number(feed_count(text)) {
         Ok(line) => Refused::BadSecond { line },

@@ -1,4 +1,5 @@
 pub mod Appends
 pub mod CallPins
 pub mod Carrying
+pub mod Chaining
 pub mod Parts

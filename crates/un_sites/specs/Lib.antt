@@ -9,3 +9,4 @@ pub mod Rooms
 pub mod Saved
 pub mod Shares
 pub mod Sites
+pub mod Sure

@@ -2,6 +2,7 @@
 #![tactic(auto)]
 
 pub mod edges;
+pub mod laws;
 pub mod numbers;
 pub mod sites;
 pub mod space_sets;

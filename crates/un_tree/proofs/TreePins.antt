@@ -8,17 +8,17 @@ use Rattle.un_tree.specs.Waits.{Whole, visits_of, IsTreeOf, IsStrictIn, leaves, 
 use Rattle.un_tree.specs.declared.node.Node.TheVariants.{Branch, Closed, Open}
 
 -- the variable with this number
-abbrev v : ℕ → VarId
+abbrev pub v : ℕ → VarId
 v n = record { 0 = n }
 
 -- a variable of 1, 2 and 3, and one of 5 and 7
-abbrev b : Sets
+abbrev pub b : Sets
 b = (1 ∷ 2 ∷ 3 ∷ []) ∷ (5 ∷ 7 ∷ []) ∷ []
 
-abbrev low : Sets
+abbrev pub low : Sets
 low = (1 ∷ 2 ∷ []) ∷ (5 ∷ 7 ∷ []) ∷ []
 
-abbrev high : Sets
+abbrev pub high : Sets
 high = (3 ∷ []) ∷ (5 ∷ 7 ∷ []) ∷ []
 
 -- the left side has the values up to the decision's, the right one those above

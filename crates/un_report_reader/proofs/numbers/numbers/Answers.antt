@@ -7,7 +7,7 @@ use Rattle.un_report_reader.proofs.numbers.numbers.Goals as goal
 
 pub returns-in_default-clause-bad : goal.returns-in_default-clause-bad
 returns-in_default-clause-bad c =
-    named (IsBadNumber c.args.count) c.args.at (c.loop-k.k / NUMBERS + 1) c.bad_line.result c.bad_line.ensures
+    named (IsBadNumber c.args.count) c.args.at (c.loop-k.k / NUMBERS + 1) c.bad_line.result c.bad_line.ensures.bad
     (bad_number c.args.at.rest.now c.loop-k.rest.now c.args.count c.loop-k.values c.loop-k.k c.end_of.result c.loop-k.invariant
     (omega arith) c.end_of.ensures.is c.in_default.ensures.none)
 

@@ -19,7 +19,7 @@ returns-in-Ok c =
     let tight : has_room c.args.frame c.in-Ok.start.regs ≡ false = cc in
     let whole = front_whole c.args.text.now front c.args.line c.requires c.first_lines-front.ensures in
     for_room c.args.frame c.args.text.now front c.requires.rest c.in-Ok.start c.in-Ok.field-0-1 c.no_room.result whole c.in-Ok.ensures.ok tight
-    c.no_room.ensures
+    c.no_room.ensures.tight
 
 pub returns : goal.returns
 returns c =

@@ -8,4 +8,4 @@ returns-else-has_room-clause-refused c =
     let text = c.args.text.now in
     let tight : has_room c.args.frame c.in-Ok.start.regs ≡ false = cc in
     for_room c.args.frame text text [] c.in-Ok.start c.in-Ok.count c.no_room.result (sym (append-nil text)) c.in-Ok.ensures.ok tight
-    c.no_room.ensures
+    c.no_room.ensures.tight
