@@ -2,17 +2,8 @@
 
 use crate::grid::Grid;
 use un_trial::facts::{BlockFacts, Operation, Temporary};
-use un_trial::sets::RegisterSet;
+use un_trial::machine::Machine;
 use un_trial::table::{NONE, Table};
-
-/// How many values a function hands back: the link register's and those of r16 to r27.
-pub const SAVED: u32 = 13;
-
-/// How many of the values that a function hands back stand in registers that a call keeps.
-pub const KEPT: u32 = 12;
-
-/// The first register that a call keeps: r16.
-pub const FIRST_KEPT: u32 = 16;
 
 /// A block, with the groups of places at its start and at its end.
 #[derive(Drop)]
@@ -35,13 +26,15 @@ pub struct Block {
 /// names, then the saved values.
 #[derive(Drop)]
 pub struct Facts {
+    /// The processor, and what may be used of it.
+    pub machine: Machine,
     /// The blocks, in order; the first is the entry.
     pub blocks: Vec<Block>,
     /// Two for each block: a group has the number of its least boundary, where starts of blocks come first, and then their ends.
     pub groups: u32,
     /// How many names the function has: these are the keys below this number.
     pub names: u32,
-    /// How many keys there are: the names, and 13 saved values behind them.
+    /// How many keys there are: the names, and the values of the saved registers behind them.
     pub keys: u32,
     /// Whether a key is live in a group.
     pub live: Grid<bool>,
@@ -51,10 +44,6 @@ pub struct Facts {
     pub region: Table<u32>,
     /// For each name, by number, whether it is a predicate.
     pub name_is_predicate: Table<bool>,
-    /// The general registers that may be assigned.
-    pub assignable: RegisterSet,
-    /// The frame slots that there are.
-    pub slots: RegisterSet,
     /// The variable of the frame flag: 1 where the code has a frame, else 0.
     pub flag: u32,
     /// How many variables the model has.
@@ -108,6 +97,17 @@ impl Block {
 }
 
 impl Facts {
+    /// How many of the saved values stand in registers that a call keeps: all but the last, which is the link.
+    pub fn kept(&self) -> u32 {
+        let saved = u32::try_from(self.machine.saved.len()).unwrap_or(0);
+        saved.saturating_sub(1)
+    }
+
+    /// The register of a saved value, by its place among them.
+    pub fn saved_register(&self, i: u32) -> u32 {
+        self.machine.saved.get(i as usize).copied().unwrap_or(NONE)
+    }
+
     /// Whether a key has a place in a group that the model leaves open.
     pub fn is_free(&self, g: u32, k: u32) -> bool {
         self.live.at(g, k) && self.fixed.at(g, k) == NONE

@@ -5,10 +5,10 @@ use un_base::ids::{NameId, OpId, TempId, VarId};
 use un_ir::extended::{ExtBlock, ExtKind, ExtOp, NodeCopy, Operand};
 use un_ir::function::Term;
 use un_isa::op::Op;
-use un_isa::packet_counts::{Resource, share};
-use un_model::instructions::{instruction, latency, needs};
+use un_model::instructions::{instruction, latency};
 use un_model::model::{Arc, BlockVars, Model, OpVars, TempVars};
-use un_trial::facts::{self, Gap, Needs, Operation};
+use un_trial::facts::{self, Gap, Operation};
+use un_trial::machine::{Machine, NO_NEEDS, needs_by};
 use un_trial::table::{NONE, Table};
 
 /// A block of a model, with the numbers at which it begins.
@@ -16,6 +16,8 @@ use un_trial::table::{NONE, Table};
 pub struct Scope<'a> {
     /// The model that the block is of.
     pub m: &'a Model,
+    /// What its table and options say.
+    pub machine: &'a Machine,
     /// The block with its operations.
     pub block: &'a ExtBlock,
     /// The variables of the block's operations, and of its end.
@@ -153,21 +155,6 @@ impl<'a> Scope<'a> {
     }
 }
 
-/// What an instruction needs of a packet.
-fn needs_of(m: &Model, instr: Option<Op>) -> Needs {
-    let n = needs(&m.ext.table, instr);
-    match instr {
-        None => [0, 0, 0, 0, 0],
-        Some(_) => [
-            share(Resource::Instructions, n),
-            share(Resource::Memory, n),
-            share(Resource::Stores, n),
-            share(Resource::MultiplyOrControl, n),
-            share(Resource::Control, n),
-        ],
-    }
-}
-
 fn alternatives(alloc: Global, s: &Scope<'_>, x: &Operand) -> Result<Vec<u32>, AllocError> {
     let mut list = Vec::new(alloc);
     for t in x.alts.as_slice() {
@@ -270,8 +257,9 @@ fn operation(
     Ok(Operation {
         operands,
         result: result_of(s, op),
-        latency: latency(&s.m.ext.table, instr),
-        needs: needs_of(s.m, instr),
+        op: instr,
+        latency: latency(&s.machine.table, instr),
+        needs: needs_by(&s.machine.table, instr),
         is_call: is_call(&op.kind),
         is_return: matches!(op.kind, ExtKind::End(Term::Ret(_))),
         instruction: number_of(vars.instr),
@@ -318,8 +306,9 @@ pub fn no_operation(alloc: Global) -> Operation {
     Operation {
         operands: Vec::new(alloc),
         result: NONE,
+        op: None,
         latency: 1,
-        needs: [0, 0, 0, 0, 0],
+        needs: NO_NEEDS,
         is_call: false,
         is_return: false,
         instruction: NONE,

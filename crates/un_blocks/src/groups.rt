@@ -1,17 +1,17 @@
 //! The facts of a function, with the groups of block boundaries that edges join.
 
-use crate::facts::{Block, Facts, SAVED, at, has};
+use crate::facts::{Block, Facts, at, has};
 use crate::gather::{Scope, number_of};
 use crate::grid::Grid;
 use crate::temporaries::block_facts;
 use std::alloc::{AllocError, Global};
+use un_base::memory_error::NoMemory;
 use un_domains::domain::Domain;
 use un_ir::extended::{ExtBlock, ExtKind};
 use un_ir::function::{Kind, Term};
-use un_isa::reg::{FIRST_SLOT, LINK, STACK};
-use un_model::model::{Model, Options};
+use un_model::model::Model;
 use un_trial::facts::{BlockFacts, Operation};
-use un_trial::sets::{EMPTY, RegisterSet};
+use un_trial::machine::Machine;
 use un_trial::table::{NONE, Table};
 
 /// An edge between two numbers that are joined.
@@ -138,6 +138,7 @@ fn bound_copies(alloc: Global, block: &BlockFacts) -> Result<Vec<u32>, AllocErro
 fn blocks(
     alloc: Global,
     m: &Model,
+    machine: &Machine,
     group: &Table<u32>,
     least_ends: &[u32],
 ) -> Result<Vec<Block>, AllocError> {
@@ -149,7 +150,7 @@ fn blocks(
         variable: 0,
     };
     for b in 0..count {
-        if let Some(scope) = scope_of(m, b, next) {
+        if let Some(scope) = scope_of(m, machine, b, next) {
             let facts = block_facts(alloc, &scope, next.variable)?;
             let bound_copies = bound_copies(alloc, &facts)?;
             list.push(Block {
@@ -178,12 +179,13 @@ fn least_end(least_ends: &[u32], b: u32) -> u32 {
     least_ends.get(b as usize).copied().unwrap_or(1)
 }
 
-fn scope_of<'a>(m: &'a Model, b: u32, next: Next) -> Option<Scope<'a>> {
+fn scope_of<'a>(m: &'a Model, machine: &'a Machine, b: u32, next: Next) -> Option<Scope<'a>> {
     let block = m.ext.blocks.as_slice().get(b as usize)?;
     let vars = m.blocks.as_slice().get(b as usize)?;
     let arcs = m.arcs.as_slice().get(b as usize)?;
     Some(Scope {
         m,
+        machine,
         block,
         vars,
         arcs: arcs.as_slice(),
@@ -202,29 +204,6 @@ fn behind(s: &Scope<'_>) -> Next {
         temp: s.first_temp.saturating_add(s.temps),
         variable: s.vars.end.0.saturating_add(1),
     }
-}
-
-/// The registers that may be assigned: all but r29 and r30, or the first few.
-fn assignable(options: Options) -> RegisterSet {
-    let mut set = EMPTY;
-    for r in 0..STACK {
-        if options.regs.is_none_or(|n| r < n) {
-            set = set.with(r);
-        }
-    }
-    if options.regs.is_none() {
-        set.with(LINK)
-    } else {
-        set
-    }
-}
-
-fn slots(options: Options) -> RegisterSet {
-    let mut set = EMPTY;
-    for i in 0..options.slots.min(64) {
-        set = set.with(FIRST_SLOT.saturating_add(i));
-    }
-    set
 }
 
 /// The only register of a value, NONE where it has a choice.
@@ -303,13 +282,27 @@ fn note_groups(m: &Model, blocks: &[Block], live: &mut Grid<bool>, fixed: &mut G
 }
 
 /// The facts of a function under lower bounds of its blocks' ends.
-pub fn facts(alloc: Global, m: &Model, least_ends: &[u32]) -> Result<Facts, AllocError> {
+///
+/// # Errors
+/// `NoMemory` where there is no memory for them.
+pub fn facts(alloc: Global, m: &Model, least_ends: &[u32]) -> Result<Facts, NoMemory> {
+    let machine = Machine::of(alloc, m)?;
+    let facts = facts_on(alloc, m, machine, least_ends)?;
+    Ok(facts)
+}
+
+fn facts_on(
+    alloc: Global,
+    m: &Model,
+    machine: Machine,
+    least_ends: &[u32],
+) -> Result<Facts, AllocError> {
     let sources = m.ext.blocks.as_slice();
     let groups = count_of_blocks(sources).saturating_mul(2);
     let group = groups_of(alloc, sources, groups)?;
     let region = regions_of(alloc, sources, groups, &group)?;
-    let blocks = blocks(alloc, m, &group, least_ends)?;
-    with_blocks(alloc, m, groups, region, blocks)
+    let blocks = blocks(alloc, m, &machine, &group, least_ends)?;
+    with_blocks(alloc, m, machine, groups, region, blocks)
 }
 
 fn groups_of(alloc: Global, sources: &[ExtBlock], size: u32) -> Result<Table<u32>, AllocError> {
@@ -330,12 +323,14 @@ fn regions_of(
 fn with_blocks(
     alloc: Global,
     m: &Model,
+    machine: Machine,
     groups: u32,
     region: Table<u32>,
     blocks: Vec<Block>,
 ) -> Result<Facts, AllocError> {
     let names = u32::try_from(m.ext.names.len()).unwrap_or(0);
-    let keys = names.saturating_add(SAVED);
+    let saved = u32::try_from(machine.saved.len()).unwrap_or(0);
+    let keys = names.saturating_add(saved);
     let mut live = Grid::filled(alloc, groups, keys, false)?;
     let mut fixed = Grid::filled(alloc, groups, keys, NONE)?;
     note_groups(m, blocks.as_slice(), &mut live, &mut fixed);
@@ -343,6 +338,7 @@ fn with_blocks(
     let copy_instructions = copy_instructions(alloc, m)?;
     let start_registers = start_registers(alloc, blocks.as_slice())?;
     Ok(Facts {
+        machine,
         blocks,
         groups,
         names,
@@ -351,8 +347,6 @@ fn with_blocks(
         fixed,
         region,
         name_is_predicate,
-        assignable: assignable(m.options),
-        slots: slots(m.options),
         flag: m.flag.0,
         variables: u32::try_from(m.domains.len()).unwrap_or(0),
         copy_instructions,

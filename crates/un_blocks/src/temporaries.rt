@@ -1,12 +1,11 @@
 //! The facts of a block's temporaries, and of the block, read from the model.
 
-use crate::facts::{FIRST_KEPT, KEPT};
 use crate::gather::{Scope, is_mandatory, no_operation, operations, tails};
 use std::alloc::{AllocError, Global};
 use un_ir::extended::{ExtKind, ExtOp, NodeCopy};
 use un_ir::function::{Kind, SrcOp};
 use un_isa::facts::result_space;
-use un_isa::reg::{LINK, Space};
+use un_isa::reg::Space;
 use un_trial::facts::{BlockFacts, Temporary};
 use un_trial::table::{NONE, Table};
 
@@ -58,12 +57,10 @@ fn key_of(s: &Scope<'_>, v: u32) -> u32 {
 fn saved_of(s: &Scope<'_>, key: u32) -> u32 {
     let names = s.names();
     if key == NONE || key < names {
-        NONE
-    } else if key.saturating_sub(names) < KEPT {
-        FIRST_KEPT.saturating_add(key.saturating_sub(names))
-    } else {
-        LINK
+        return NONE;
     }
+    let place = key.saturating_sub(names) as usize;
+    s.machine.saved.get(place).copied().unwrap_or(NONE)
 }
 
 /// Whether a value is a predicate.
@@ -87,6 +84,7 @@ fn is_root(s: &Scope<'_>, t: u32) -> bool {
 fn copy(alloc: Global, s: &Scope<'_>, t: u32) -> Temporary {
     Temporary {
         value: s.value(t),
+        definer: s.definer(t),
         register: s.temp(t).map_or(NONE, |vars| vars.reg.0),
         is_root: is_root(s, t),
         ..no_temporary(alloc)
@@ -192,6 +190,7 @@ fn temporaries(alloc: Global, s: &Scope<'_>) -> Result<Vec<Temporary>, AllocErro
 fn no_temporary(alloc: Global) -> Temporary {
     Temporary {
         value: NONE,
+        definer: NONE,
         register: NONE,
         is_predicate: false,
         is_root: false,

@@ -2,50 +2,68 @@
 
 use crate::places::{Places, taken};
 use std::alloc::{AllocError, Global};
-use un_blocks::facts::{Block, FIRST_KEPT, Facts, KEPT};
+use un_blocks::facts::{Block, Facts};
 use un_blocks::grid::Grid;
 use un_isa::reg::{FIRST_SLOT, LINK};
-use un_trial::sets::{EMPTY, RegisterSet};
+use un_trial::sets::{EMPTY, GENERAL, PREDICATES, RegisterSet};
 use un_trial::table::NONE;
+
+/// How many saved values stand in slots between entry and returns, those of the first registers.
+#[derive(Clone, Copy)]
+pub enum Spilled {
+    Nothing,
+    Two,
+    Half,
+    All,
+}
+
+impl Spilled {
+    /// How many of so many.
+    fn among(self, kept: u32) -> u32 {
+        match self {
+            Spilled::Nothing => 0,
+            Spilled::Two => 2,
+            Spilled::Half => kept / 2,
+            Spilled::All => kept,
+        }
+    }
+}
 
 /// A start assignment.
 #[derive(Clone, Copy)]
 pub struct Start {
     /// Whether the function has a frame, so that keys may stand in slots.
     pub frame: bool,
-    /// How many saved values, from that of r16 on, stand in slots between entry and returns: 0 to 12.
-    pub spilled: u32,
+    /// How many saved values stand in slots between entry and returns.
+    pub spilled: Spilled,
 }
 
 /// The start assignments in the order in which they are tried.
 pub const STARTS: [Start; 5] = [
     Start {
         frame: false,
-        spilled: 0,
+        spilled: Spilled::Nothing,
     },
     Start {
         frame: true,
-        spilled: 0,
+        spilled: Spilled::Nothing,
     },
     Start {
         frame: true,
-        spilled: 2,
+        spilled: Spilled::Two,
     },
     Start {
         frame: true,
-        spilled: 6,
+        spilled: Spilled::Half,
     },
     Start {
         frame: true,
-        spilled: 12,
+        spilled: Spilled::All,
     },
 ];
 
-/// r0 to r15 and r28, which a call does not keep.
-const PLAIN: u128 = 0x1000_ffff;
-
-/// p0 to p2: one predicate register stays free.
-const PREDICATES: u128 = 0x7_0000_0000;
+/// Weights per group are compared to so many parts of one.
+const PARTS: u64 = 1_000;
 
 /// How many values of a name a block reads and writes.
 fn uses(block: &Block, name: u32) -> u64 {
@@ -147,11 +165,11 @@ fn free_groups(facts: &Facts, k: u32) -> u64 {
 
 /// The first place of a saved value: its own register, or NONE for a slot.
 fn saved_place(facts: &Facts, start: Start, i: u32) -> u32 {
-    if i < KEPT {
-        if i < start.spilled {
+    if i < facts.kept() {
+        if i < start.spilled.among(facts.kept()) {
             NONE
         } else {
-            FIRST_KEPT.saturating_add(i)
+            facts.saved_register(i)
         }
     } else if calls(facts) {
         NONE
@@ -161,12 +179,27 @@ fn saved_place(facts: &Facts, start: Start, i: u32) -> u32 {
 }
 
 /// The registers of the saved values that stand in slots.
-fn freed(start: Start) -> RegisterSet {
+fn freed(facts: &Facts, start: Start) -> RegisterSet {
     let mut set = EMPTY;
-    for i in 0..start.spilled {
-        set = set.with(FIRST_KEPT.saturating_add(i));
+    for i in 0..start.spilled.among(facts.kept()) {
+        set = set.with(facts.saved_register(i));
     }
     set
+}
+
+/// The registers that may be assigned and that a call writes, but for the link.
+fn unkept(facts: &Facts) -> RegisterSet {
+    facts
+        .machine
+        .assignable
+        .and(facts.machine.clobbered)
+        .and(GENERAL)
+        .without(LINK)
+}
+
+/// The predicates but the last, which stays free.
+fn predicates() -> RegisterSet {
+    PREDICATES.without(FIRST_SLOT - 1)
 }
 
 /// The register of a parameter at the function's entry.
@@ -180,12 +213,14 @@ fn own_register(facts: &Facts, k: u32) -> u32 {
 /// The first place that a name wants in its groups, where others are taken; NONE for a slot. What crosses a call wants a kept
 /// register whose saved value is spilled.
 fn name_place(facts: &Facts, start: Start, k: u32, busy: RegisterSet) -> u32 {
-    let freed = freed(start).and(facts.assignable).minus(busy);
+    let freed = freed(facts, start)
+        .and(facts.machine.assignable)
+        .minus(busy);
     if crosses_call(facts, k) {
         return freed.least();
     }
     let first = if facts.name_is_predicate.at(k) {
-        RegisterSet::of_mask(PREDICATES)
+        predicates()
     } else {
         RegisterSet::one(own_register(facts, k))
     };
@@ -193,12 +228,12 @@ fn name_place(facts: &Facts, start: Start, k: u32, busy: RegisterSet) -> u32 {
     if own != NONE {
         return own;
     }
-    let plain = facts
-        .assignable
-        .and(RegisterSet::of_mask(PLAIN))
-        .minus(busy)
-        .least();
-    if plain != NONE { plain } else { freed.least() }
+    let unkept = unkept(facts).minus(busy).least();
+    if unkept != NONE {
+        unkept
+    } else {
+        freed.least()
+    }
 }
 
 /// The places that are taken in the groups in which a key's place is open.
@@ -240,7 +275,7 @@ fn assign_key(
         r = *next_slot;
         *next_slot = r.saturating_add(1);
     }
-    if r >= FIRST_SLOT && !(start.frame && facts.slots.has(r)) {
+    if r >= FIRST_SLOT && !(start.frame && facts.machine.slots.has(r)) {
         return false;
     }
     put_everywhere(facts, places, k, r);
@@ -252,7 +287,7 @@ fn names_by_weight(alloc: Global, facts: &Facts) -> Result<Vec<(u64, u32)>, Allo
     let mut list = Vec::new(alloc);
     for n in 0..facts.names {
         let groups = free_groups(facts, n).saturating_add(1);
-        let share = weight(facts, n).saturating_mul(16) / groups.max(1);
+        let share = weight(facts, n).saturating_mul(PARTS) / groups.max(1);
         list.push((u64::MAX.saturating_sub(share), n))?;
     }
     list.sort()?;

@@ -2,8 +2,8 @@
 
 use crate::chance::Noise;
 use crate::places::{Places, taken};
-use un_blocks::facts::{Block, FIRST_KEPT, Facts, KEPT};
-use un_isa::reg::{FIRST_SLOT, GENERALS};
+use un_blocks::facts::{Block, Facts};
+use un_isa::reg::{self, FIRST_SLOT, GENERALS};
 use un_trial::sets::{EMPTY, PREDICATES, REGISTERS, RegisterSet, Space, space_at};
 use un_trial::table::NONE;
 
@@ -20,7 +20,7 @@ pub struct Change {
 
 /// The slots that no group uses.
 pub fn spare_slots(facts: &Facts, places: &Places) -> RegisterSet {
-    let mut set = facts.slots;
+    let mut set = facts.machine.slots;
     for g in 0..facts.groups {
         set = set.minus(taken(places, g));
     }
@@ -127,12 +127,12 @@ fn free_name(facts: &Facts, g: u32, place: u32) -> Option<u32> {
 
 /// A saved value by chance goes to a slot in its region, or back to its register.
 fn saved_change(facts: &Facts, places: &Places, group: u32, noise: &mut Noise) -> Option<Change> {
-    let i = noise.place(KEPT);
+    let i = noise.place(facts.kept());
     let key = facts.names.saturating_add(i);
     let place = if places.at(group, key) < FIRST_SLOT {
         slot_of(facts, places, key)
     } else {
-        FIRST_KEPT.saturating_add(i)
+        facts.saved_register(i)
     };
     if facts.is_free(group, key) {
         Some(Change { group, key, place })
@@ -165,11 +165,11 @@ pub fn any_change(
     }
     let is_predicate = facts.name_is_predicate.at(key) && !noise.one_in(4);
     let place = if is_predicate {
-        GENERALS.saturating_add(noise.place(4))
+        GENERALS.saturating_add(noise.place(reg::PREDICATES))
     } else {
-        noise.place(32)
+        noise.place(GENERALS)
     };
-    if facts.assignable.or(PREDICATES).has(place) {
+    if facts.machine.assignable.or(PREDICATES).has(place) {
         Some(Change { group, key, place })
     } else {
         None

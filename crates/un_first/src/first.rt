@@ -5,12 +5,13 @@ ghost use Rattle.un_model.specs.Solutions.{IsSolution};
 ghost use Rattle.un_model.specs.Variables.{IsModel};
 
 use crate::assemble::assembled;
-use crate::search::Search;
+use crate::search::{Search, cycles_of, least_cost};
 use crate::start::best_start;
 use std::alloc::{AllocError, Global};
 use un_base::memory_error::NoMemory;
 use un_blocks::facts::Facts;
 use un_blocks::groups::facts;
+use un_isa::reg::GENERALS;
 use un_lists::items::Items;
 use un_model::model::{Model, Solution};
 use un_violations::violations::violations;
@@ -34,8 +35,23 @@ pub fn judged(alloc: Global, m: &Model, values: Vec<u32>) -> Result<Option<Solut
     }
 }
 
+/// Searches under fewer registers end where so many in turn found nothing cheaper.
+const IDLE: u32 = 4;
+
+/// A search under fewer registers has so many trials at most.
+const FEWER_TRIALS: u64 = 1_000;
+
+/// The values that a search found.
+#[derive(Drop)]
+struct Found {
+    /// The value of each variable.
+    values: Vec<u32>,
+    /// What they cost.
+    cycles: u64,
+}
+
 /// The values that a search with so many trials finds.
-fn searched(alloc: Global, facts: &Facts, budget: u64) -> Result<Option<Vec<u32>>, AllocError> {
+fn searched(alloc: Global, facts: &Facts, budget: u64) -> Result<Option<Found>, AllocError> {
     let Some(first) = facts.blocks.as_slice().first() else {
         return Ok(None);
     };
@@ -47,11 +63,49 @@ fn searched(alloc: Global, facts: &Facts, budget: u64) -> Result<Option<Vec<u32>
     let mut plan = search.climb(alloc, start, quarter)?;
     search.spend(&mut plan)?;
     let values = assembled(alloc, facts, &plan)?;
-    Ok(Some(values))
+    Ok(Some(Found {
+        values,
+        cycles: cycles_of(facts, &plan),
+    }))
 }
 
-/// The values that a search with at most `budget` trials of blocks makes; None where no start assignment leads to any. Nothing is
-/// promised of them: `first` judges them.
+/// Makes values the cheapest of those that searches under fewer and fewer registers find. They go other ways, and what they find is as
+/// good under all registers. Nothing is tried where the values cost the least.
+fn improve(
+    alloc: Global,
+    facts: &mut Facts,
+    budget: u64,
+    best: &mut Found,
+) -> Result<(), AllocError> {
+    let least = least_cost(facts);
+    let mut idle = 0;
+    for _ in 0..GENERALS {
+        if best.cycles <= least || idle >= IDLE {
+            break;
+        }
+        facts.machine.assignable.drop_greatest();
+        idle += 1;
+        if let Some(found) = searched(alloc, facts, budget)?
+            && found.cycles < best.cycles
+        {
+            *best = found;
+            idle = 0;
+        }
+    }
+    Ok(())
+}
+
+/// The cheapest values that searches find; the first has all registers that may be assigned and so many trials.
+fn cheapest(alloc: Global, facts: &mut Facts, budget: u64) -> Result<Option<Found>, AllocError> {
+    let Some(mut best) = searched(alloc, facts, budget)? else {
+        return Ok(None);
+    };
+    improve(alloc, facts, budget.min(FEWER_TRIALS), &mut best)?;
+    Ok(Some(best))
+}
+
+/// The values that a search with at most `budget` trials of blocks makes, or one of those that follow under fewer registers; None where no
+/// start assignment leads to any. Nothing is promised of them: `first` judges them.
 ///
 /// # Errors
 /// `NoMemory` where there is no memory for the plans.
@@ -61,14 +115,14 @@ pub fn candidate(
     least_ends: &[u32],
     budget: u32,
 ) -> Result<Option<Vec<u32>>, NoMemory> {
-    let facts = facts(alloc, m, least_ends)?;
-    let values = searched(alloc, &facts, u64::from(budget))?;
-    Ok(values)
+    let mut facts = facts(alloc, m, least_ends)?;
+    let found = cheapest(alloc, &mut facts, u64::from(budget))?;
+    Ok(found.map(|best| best.values))
 }
 
-/// A solution by at most `budget` trials of blocks, which follows from the model, the bounds and the budget alone; None where none
-/// was found. `least_ends` has a lower bound of each block's end: a block that has reached it gets no more trials. A wrong one makes
-/// the answer worse, and not wrong.
+/// A solution by at most `budget` trials of blocks, and more of them under fewer registers where it costs more than the least. It
+/// follows from the model, the bounds and the budget alone; None where none was found. `least_ends` has a lower bound of each block's
+/// end: a block that has reached it gets no more trials. A wrong one makes the answer worse, and not wrong.
 ///
 /// # Errors
 /// `NoMemory` where there is no memory for the plans.

@@ -3,35 +3,8 @@
 use crate::places::Places;
 use std::alloc::{AllocError, Global};
 use un_blocks::facts::Facts;
-use un_trial::trial::{Manner, PLAIN, Size};
-
-/// What a trial may vary.
-#[derive(Drop)]
-pub struct Recipe {
-    /// The source operations of the block without its terminator, in the order in which a trial places them.
-    pub order: Vec<u32>,
-    /// What a trial does besides.
-    pub manner: Manner,
-}
-
-impl Recipe {
-    pub fn new(alloc: Global) -> Recipe {
-        Recipe {
-            order: Vec::new(alloc),
-            manner: PLAIN,
-        }
-    }
-
-    /// Whether a trial by the other recipe would be the same.
-    pub fn is_same(&self, other: &Recipe) -> bool {
-        self.manner == other.manner && self.order.as_slice() == other.order.as_slice()
-    }
-
-    pub fn copy_from(&mut self, order: &[u32], manner: Manner) -> Result<(), AllocError> {
-        self.manner = manner;
-        copy_list(&mut self.order, order)
-    }
-}
+use un_trial::recipe::Recipe;
+use un_trial::trial::Size;
 
 /// What a trial of a block gave.
 #[derive(Drop)]
@@ -42,7 +15,7 @@ pub struct Schedule {
     pub copies: u32,
     /// The values of the block's variables, from its first on.
     pub values: Vec<u32>,
-    /// The order, and the freedom to spill, with which it was made.
+    /// The recipe by which it was made.
     pub recipe: Recipe,
 }
 
@@ -134,10 +107,7 @@ impl BlockPlan {
         self.best.end = other.best.end;
         self.best.copies = other.best.copies;
         copy_list(&mut self.best.values, other.best.values.as_slice())?;
-        let recipe = &other.best.recipe;
-        self.best
-            .recipe
-            .copy_from(recipe.order.as_slice(), recipe.manner)
+        self.best.recipe.copy_from(&other.best.recipe)
     }
 
     /// The size of the best schedule; no limit where there is none.

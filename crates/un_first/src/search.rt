@@ -4,12 +4,13 @@ use crate::chance::Noise;
 use crate::changes::spare_slots;
 use crate::orders::move_one;
 use crate::places::Places;
-use crate::plan::{BlockPlan, Cost, Plan, Recipe, UNLIMITED};
+use crate::plan::{BlockPlan, Cost, Plan, UNLIMITED};
 use std::alloc::{AllocError, Global};
 use std::mem;
 use un_blocks::facts::{Block, Facts};
+use un_trial::recipe::{Crossing, Manner, PLAIN, Recipe};
 use un_trial::sets::{EMPTY, RegisterSet};
-use un_trial::trial::{Manner, PLAIN, Size, Task, Trial};
+use un_trial::trial::{Size, Task, Trial};
 
 /// How many operations of a further trial's order are moved at most.
 const MOVES: u64 = 5;
@@ -49,10 +50,19 @@ fn cycles(block: &Block, end: u32) -> u64 {
 }
 
 /// The cost of the blocks' least ends.
-fn least_cost(facts: &Facts) -> u64 {
+pub fn least_cost(facts: &Facts) -> u64 {
     let mut sum = 0u64;
     for block in &facts.blocks {
         sum = sum.saturating_add(cycles(block, block.least_end));
+    }
+    sum
+}
+
+/// The cost of a plan's schedules.
+pub fn cycles_of(facts: &Facts, plan: &Plan) -> u64 {
+    let mut sum = 0u64;
+    for (block, mine) in facts.blocks.as_slice().iter().zip(plan.blocks.as_slice()) {
+        sum = sum.saturating_add(cycles(block, mine.best.end));
     }
     sum
 }
@@ -77,10 +87,9 @@ impl<'a> Search<'a> {
         budget: u64,
     ) -> Result<Search<'a>, AllocError> {
         let task = Task {
+            machine: &facts.machine,
             block: &first.facts,
             frame: false,
-            manner: PLAIN,
-            assignable: EMPTY,
             spare_slots: EMPTY,
             most: UNLIMITED,
         };
@@ -99,11 +108,8 @@ impl<'a> Search<'a> {
     /// The recipe of a block's first trial: the seed or the source order.
     fn first_recipe(&mut self, b: u32, block: &Block, manner: Manner) -> Result<(), AllocError> {
         match self.seeds.get(b as usize) {
-            Some(seed) if seed.is_there => {
-                self.recipe
-                    .copy_from(seed.recipe.order.as_slice(), seed.recipe.manner)
-            }
-            _ => self.recipe.copy_from(block.facts.body.as_slice(), manner),
+            Some(seed) if seed.is_there => self.recipe.copy_from(&seed.recipe),
+            _ => self.recipe.restart(block.facts.body.as_slice(), manner),
         }
     }
 
@@ -115,17 +121,16 @@ impl<'a> Search<'a> {
         manner: Manner,
     ) -> Result<(), AllocError> {
         if mine.is_found {
-            let best = &mine.best.recipe;
-            self.recipe.copy_from(best.order.as_slice(), best.manner)?;
+            self.recipe.copy_from(&mine.best.recipe)?;
         } else {
-            self.recipe.copy_from(block.facts.body.as_slice(), manner)?;
+            self.recipe.restart(block.facts.body.as_slice(), manner)?;
         }
         if self.noise.one_in(8) {
             self.recipe.manner.spill_saved = manner.spill_saved;
             self.recipe.manner.link_first = manner.link_first;
         }
         if mine.tried > 1 && block.has_call() && self.noise.one_in(3) {
-            self.change_manner(block);
+            self.change_manner(block)?;
         }
         let moves = self.noise.below(MOVES).saturating_add(1);
         for _ in 0..moves {
@@ -135,26 +140,26 @@ impl<'a> Search<'a> {
     }
 
     /// Changes by chance what the recipe's trial does about calls.
-    fn change_manner(&mut self, block: &Block) {
+    fn change_manner(&mut self, block: &Block) -> Result<(), AllocError> {
         match self.noise.below(6) {
             0 => self.recipe.manner.to_arguments = !self.recipe.manner.to_arguments,
             1 => self.recipe.manner.save_at_once = !self.recipe.manner.save_at_once,
-            _ => self.change_crossing(block),
+            _ => self.change_crossing(block)?,
         }
+        Ok(())
     }
 
     /// Changes by chance where one of a block's values stands where it crosses a call.
-    fn change_crossing(&mut self, block: &Block) {
-        let t = self.noise.place(block.facts.temporaries.len());
-        let v = block.temporary(t).value;
-        let manner = &mut self.recipe.manner;
-        manner.in_slots = manner.in_slots.without(v);
-        manner.kept_late = manner.kept_late.without(v);
-        match self.noise.below(3) {
-            0 => manner.in_slots = manner.in_slots.with(v),
-            1 => manner.kept_late = manner.kept_late.with(v),
-            _ => {}
-        }
+    fn change_crossing(&mut self, block: &Block) -> Result<(), AllocError> {
+        let count = block.facts.temporaries.len();
+        let t = self.noise.place(count);
+        let crossing = match self.noise.below(3) {
+            0 => Crossing::Slot,
+            1 => Crossing::KeptLate,
+            _ => Crossing::Kept,
+        };
+        self.recipe
+            .set_crossing(block.temporary(t).value, count, crossing)
     }
 
     fn next_recipe(&mut self, b: u32, block: &Block, mine: &BlockPlan) -> Result<(), AllocError> {
@@ -210,18 +215,15 @@ impl<'a> Search<'a> {
         mine: &mut BlockPlan,
     ) -> Result<(), AllocError> {
         let task = Task {
+            machine: &self.facts.machine,
             block: &block.facts,
             frame: scene.frame,
-            manner: self.recipe.manner,
-            assignable: self.facts.assignable,
             spare_slots: scene.spare_slots,
             most: mine.size(),
         };
         let start = scene.places.row(block.group_in);
         let finish = scene.places.row(block.group_out);
-        let end = self
-            .trial
-            .run(task, start, finish, self.recipe.order.as_slice())?;
+        let end = self.trial.run(task, start, finish, &self.recipe)?;
         if let Some(found) = end {
             self.keep(found, mine);
         }
@@ -284,10 +286,8 @@ impl<'a> Search<'a> {
     pub fn remember(&mut self, plan: &Plan) -> Result<(), AllocError> {
         for (seed, mine) in self.seeds.iter_mut().zip(plan.blocks.as_slice()) {
             if mine.is_found {
-                let recipe = &mine.best.recipe;
                 seed.is_there = true;
-                seed.recipe
-                    .copy_from(recipe.order.as_slice(), recipe.manner)?;
+                seed.recipe.copy_from(&mine.best.recipe)?;
             }
         }
         Ok(())

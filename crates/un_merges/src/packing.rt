@@ -2,7 +2,7 @@
 //! is promised of it but that it is safe: its answers are judged.
 
 use std::alloc::{AllocError, Global};
-use un_base::ids::{BlockId, OpId};
+use un_base::ids::BlockId;
 use un_base::memory_error::NoMemory;
 use un_isa::does::is_transfer;
 use un_isa::op::Op;
@@ -10,20 +10,18 @@ use un_isa::packet_counts::{Resource, places};
 use un_isa::reg::{FIRST_SLOT, SLOTS};
 use un_isa::table::Table;
 use un_model::distances::{frame_distance, memory_distance};
-use un_model::instructions::{latency, share};
+use un_model::instructions::{gap, share};
 use un_model::model::{BlockVars, Model};
 use un_model::schedule::{Issue, LiveRange, Read, Schedule};
 
-/// What a packet has of each resource, and what instructions take.
-type Counts = [u32; 5];
+/// How many resources a packet has.
+const RESOURCES: usize = Resource::ALL.len();
 
-const RESOURCES: [Resource; 5] = [
-    Resource::Instructions,
-    Resource::Memory,
-    Resource::Stores,
-    Resource::MultiplyOrControl,
-    Resource::Control,
-];
+/// What a packet has of each resource, or what instructions take.
+type Counts = [u32; RESOURCES];
+
+/// Nothing.
+const NOTHING: Counts = [0; RESOURCES];
 
 /// A block of a schedule as it is listed again.
 #[derive(Drop)]
@@ -55,16 +53,16 @@ fn raise(list: &mut [u32], i: u32, x: u32) {
 
 /// What an instruction takes.
 fn counts(table: &Table, instr: Option<Op>) -> Counts {
-    let mut needed = [0; 5];
-    for k in 0..5 {
-        needed[k] = share(table, RESOURCES[k], instr);
+    let mut needed = NOTHING;
+    for k in 0..RESOURCES {
+        needed[k] = share(table, Resource::ALL[k], instr);
     }
     needed
 }
 
 fn fits(taken: Counts, more: Counts) -> bool {
-    for k in 0..5 {
-        if taken[k].saturating_add(more[k]) > places(RESOURCES[k]) {
+    for k in 0..RESOURCES {
+        if taken[k].saturating_add(more[k]) > places(Resource::ALL[k]) {
             return false;
         }
     }
@@ -73,7 +71,7 @@ fn fits(taken: Counts, more: Counts) -> bool {
 
 fn both(taken: Counts, more: Counts) -> Counts {
     let mut sum = taken;
-    for k in 0..5 {
+    for k in 0..RESOURCES {
         sum[k] = sum[k].saturating_add(more[k]);
     }
     sum
@@ -86,14 +84,14 @@ impl<'a> Packing<'a> {
     }
 
     /// The least cycle in which an operation may read what it reads.
-    fn read_from(&self, op: OpId) -> u32 {
+    fn read_from(&self, i: &Issue) -> u32 {
         let mut from = 1;
         for r in self.reads {
-            if r.user == op
+            if r.user == i.op
                 && let Some(h) = self.ranges.get(r.temp.0 as usize)
             {
                 let defined = at(self.cycles.as_slice(), h.op.0);
-                from = from.max(defined.saturating_add(latency(self.table, h.instr)));
+                from = from.max(defined.saturating_add(gap(self.table, h.instr, i.instr)));
             }
         }
         from
@@ -143,7 +141,7 @@ impl<'a> Packing<'a> {
     /// The least cycle in which an instruction may issue.
     fn issue_from(&self, i: &Issue) -> u32 {
         let from = self
-            .read_from(i.op)
+            .read_from(i)
             .max(self.write_from(i))
             .max(self.order_from(i));
         match i.instr {
@@ -160,7 +158,7 @@ impl<'a> Packing<'a> {
         let mut from = 1;
         for i in self.issues {
             if i.block == self.block && i.active && i.instr.is_none() {
-                from = from.max(self.read_from(i.op));
+                from = from.max(self.read_from(i));
             }
         }
         from
@@ -225,7 +223,7 @@ impl<'a> Packing<'a> {
     /// Lists the packet of a cycle of the old schedule.
     fn list(&mut self, old: u32) {
         let mut from = 1;
-        let mut needed = [0; 5];
+        let mut needed = NOTHING;
         for i in self.issues {
             if self.is_in(i, old) {
                 from = self.issue_from(i).max(from);
@@ -334,7 +332,7 @@ pub(crate) fn packed(
         ranges: t.ranges.as_slice(),
         block,
         cycles: filled(alloc, issues.len(), 0)?,
-        taken: filled(alloc, end as usize, [0; 5])?,
+        taken: filled(alloc, end as usize, NOTHING)?,
         free_from: filled(alloc, (FIRST_SLOT + SLOTS) as usize, 0)?,
         last: 0,
     };

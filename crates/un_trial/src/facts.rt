@@ -1,14 +1,10 @@
 //! What a trial reads of a block. Operations and temporaries are numbered from 0 in the block, variables in the function.
 
+use crate::machine::Needs;
 use crate::sets::Space;
 use crate::table::Table;
 use un_ir::extended::{FROM_PREDICATE, MOVE, RELOAD, SPILL, TO_PREDICATE};
-
-/// Needs of a packet: instructions, memory, stores, X and C together, control.
-pub type Needs = [u8; 5];
-
-/// What a packet has of each of its needs, in their order.
-pub const ROOM: Needs = [4, 2, 1, 2, 1];
+use un_isa::op::Op;
 
 /// The instruction of a copy between two spaces.
 pub fn copy_instruction(from: Space, to: Space) -> Option<u32> {
@@ -20,21 +16,6 @@ pub fn copy_instruction(from: Space, to: Space) -> Option<u32> {
         (Space::General, Space::Predicate) => Some(TO_PREDICATE),
         _ => None,
     }
-}
-
-/// What a copy needs of its packet.
-pub fn copy_needs(instruction: u32) -> Needs {
-    match instruction {
-        MOVE => [1, 0, 0, 0, 0],
-        SPILL => [1, 1, 1, 0, 0],
-        RELOAD => [1, 1, 0, 0, 0],
-        _ => [1, 0, 0, 1, 0],
-    }
-}
-
-/// The latency of a copy.
-pub fn copy_latency(instruction: u32) -> u32 {
-    if instruction == RELOAD { 2 } else { 1 }
 }
 
 /// An operand of an operation, or of the block's end.
@@ -74,9 +55,11 @@ pub struct Operation {
     pub operands: Vec<Operand>,
     /// The temporary that it defines; NONE where it defines none, and for the operation of the block's start.
     pub result: u32,
-    /// How many cycles after it its result can be read; for a copy that of a Mov.
+    /// What it does, where it is issued; None at the block's start and end. A copy counts as a Mov here and in the next two.
+    pub op: Option<Op>,
+    /// How many cycles after it its result can be read.
     pub latency: u32,
-    /// What it takes of its packet; for a copy what a Mov takes.
+    /// What it takes of its packet.
     pub needs: Needs,
     /// Whether it is a call of the source.
     pub is_call: bool,
@@ -90,18 +73,20 @@ pub struct Operation {
     pub before: Vec<Gap>,
 }
 
-/// A temporary: a value, or a copy of one. Of a copy only `value`, `register` and `is_root` are told.
+/// A temporary: a value, or a copy of one. Of a copy only `value`, `definer`, `register` and `is_root` are told.
 #[derive(Drop)]
 pub struct Temporary {
     /// The value that it carries, by the number of that value's own temporary: its own number where it is no copy.
     pub value: u32,
+    /// The operation that defines it.
+    pub definer: u32,
     /// The variable of its register.
     pub register: u32,
     /// Whether its value is a truth value.
     pub is_predicate: bool,
     /// Whether every later reader of its value may choose it: so of the value itself and of its copies d and d2.
     pub is_root: bool,
-    /// The register, r16 to r27 or r31, of which its value is what stood there at the function's entry; NONE for other values.
+    /// The saved register of which its value is what stood there at the function's entry; NONE for other values.
     pub saved: u32,
     /// The key that its value stands for: a name, or a saved value; NONE where it stands for none.
     pub key: u32,

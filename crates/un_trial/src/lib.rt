@@ -3,7 +3,9 @@
 #![tactic(auto)]
 
 pub mod facts;
+pub mod machine;
 pub mod pairs;
+pub mod recipe;
 pub mod sets;
 pub mod table;
 pub mod trial;

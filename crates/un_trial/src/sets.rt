@@ -1,60 +1,101 @@
 //! Registers and slots, and sets of them.
 
 use crate::table::NONE;
-use un_isa::reg::{FIRST_SLOT, GENERALS};
+use un_isa::reg::{self, FIRST_SLOT, GENERALS};
 
-/// How many registers and slots there are in a trial: r0 to r31, p0 to p3, then at most 64 slots.
-pub const REGISTERS: u32 = FIRST_SLOT + 64;
+/// How many registers and slots there are in a trial: the general registers, the predicates, and the slots that a frame may have.
+pub const REGISTERS: u32 = FIRST_SLOT + reg::SLOTS;
 
-/// A set of registers and slots below 128.
+/// How many slots a word of a set tells of.
+const WORD: u32 = u64::BITS;
+
+/// How many words tell of all slots.
+const SLOT_WORDS: usize = ((reg::SLOTS + WORD - 1) / WORD) as usize;
+
+/// The bits of the general registers.
+const GENERAL_BITS: u64 = (1 << GENERALS) - 1;
+
+/// The bits of all registers.
+const REGISTER_BITS: u64 = (1 << FIRST_SLOT) - 1;
+
+/// A set of registers and slots.
 #[derive(Clone, Copy, PartialEq)]
 pub struct RegisterSet {
-    mask: u128,
+    /// Bit r stands for register r: the general ones and the predicates.
+    registers: u64,
+    /// Bit i of word k stands for slot k · WORD + i.
+    slots: [u64; SLOT_WORDS],
 }
 
+/// No register.
+pub const EMPTY: RegisterSet = RegisterSet {
+    registers: 0,
+    slots: [0; SLOT_WORDS],
+};
 /// All registers and slots.
 pub const ALL: RegisterSet = RegisterSet {
-    mask: 0xf_ffff_ffff_ffff_ffff_ffff_ffff,
+    registers: REGISTER_BITS,
+    slots: [u64::MAX; SLOT_WORDS],
 };
-/// r0 to r31.
-pub const GENERAL: RegisterSet = RegisterSet { mask: 0xffff_ffff };
-/// p0 to p3.
+/// The general registers.
+pub const GENERAL: RegisterSet = RegisterSet {
+    registers: GENERAL_BITS,
+    slots: [0; SLOT_WORDS],
+};
+/// The predicates.
 pub const PREDICATES: RegisterSet = RegisterSet {
-    mask: 0xf_0000_0000,
+    registers: REGISTER_BITS - GENERAL_BITS,
+    slots: [0; SLOT_WORDS],
 };
 /// All slots.
 pub const SLOTS: RegisterSet = RegisterSet {
-    mask: 0xf_ffff_ffff_ffff_fff0_0000_0000,
+    registers: 0,
+    slots: [u64::MAX; SLOT_WORDS],
 };
-/// The registers that a call keeps and a return restores: r16 to r27.
-pub const KEPT: RegisterSet = RegisterSet { mask: 0xfff_0000 };
-/// What a call writes: r0 to r15, r28, r31, p0 to p3.
-pub const CLOBBERED: RegisterSet = RegisterSet {
-    mask: 0xf_9000_ffff,
-};
-/// No register.
-pub const EMPTY: RegisterSet = RegisterSet { mask: 0 };
+
+/// The number of a slot: a register's number behind the first slot's.
+fn slot_of(r: u32) -> u32 {
+    r.saturating_sub(FIRST_SLOT)
+}
 
 impl RegisterSet {
-    /// The registers whose bits are set.
-    pub fn of_mask(mask: u128) -> RegisterSet {
-        RegisterSet { mask }
+    /// The registers of a mask, in which bit r stands for register r.
+    pub fn of_mask(mask: u64) -> RegisterSet {
+        RegisterSet {
+            registers: mask & REGISTER_BITS,
+            ..EMPTY
+        }
     }
 
     /// The set of one register.
     pub fn one(r: u32) -> RegisterSet {
-        let mask = if r < 128 { 1 << r } else { 0 };
-        RegisterSet { mask }
+        EMPTY.with(r)
+    }
+
+    /// The word of a slot.
+    fn word(self, slot: u32) -> u64 {
+        self.slots.get((slot / WORD) as usize).copied().unwrap_or(0)
     }
 
     /// Whether a register is in the set.
     pub fn has(self, r: u32) -> bool {
-        r < 128 && (self.mask >> r) & 1 == 1
+        if r < FIRST_SLOT {
+            return (self.registers >> r) & 1 == 1;
+        }
+        let slot = slot_of(r);
+        (self.word(slot) >> (slot % WORD)) & 1 == 1
     }
 
     /// With one register more.
     pub fn with(self, r: u32) -> RegisterSet {
-        self.or(RegisterSet::one(r))
+        let mut set = self;
+        let slot = slot_of(r);
+        if r < FIRST_SLOT {
+            set.registers |= 1 << r;
+        } else if let Some(word) = set.slots.get_mut((slot / WORD) as usize) {
+            *word |= 1 << (slot % WORD);
+        }
+        set
     }
 
     /// With one register less.
@@ -64,69 +105,84 @@ impl RegisterSet {
 
     /// What is in both sets.
     pub fn and(self, other: RegisterSet) -> RegisterSet {
-        RegisterSet {
-            mask: self.mask & other.mask,
+        let mut set = self;
+        set.registers &= other.registers;
+        for k in 0..SLOT_WORDS {
+            set.slots[k] &= other.slots[k];
         }
+        set
     }
 
     /// What is in either set.
     pub fn or(self, other: RegisterSet) -> RegisterSet {
-        RegisterSet {
-            mask: self.mask | other.mask,
+        let mut set = self;
+        set.registers |= other.registers;
+        for k in 0..SLOT_WORDS {
+            set.slots[k] |= other.slots[k];
         }
+        set
     }
 
     /// What is in this set and not in the other.
     pub fn minus(self, other: RegisterSet) -> RegisterSet {
-        RegisterSet {
-            mask: self.mask & !other.mask,
+        let mut set = self;
+        set.registers &= !other.registers;
+        for k in 0..SLOT_WORDS {
+            set.slots[k] &= !other.slots[k];
         }
+        set
     }
 
     /// Takes the smallest register out of the set; None where it has none.
     pub fn take_least(&mut self) -> Option<u32> {
-        let least = self.least();
-        self.mask &= self.mask.wrapping_sub(1);
-        if least == NONE { None } else { Some(least) }
+        if self.registers == 0 {
+            return self.take_slot();
+        }
+        let r = self.registers.trailing_zeros();
+        self.registers &= self.registers.wrapping_sub(1);
+        Some(r)
+    }
+
+    /// Takes the smallest slot out of the set.
+    fn take_slot(&mut self) -> Option<u32> {
+        let mut first = FIRST_SLOT;
+        for word in self.slots.iter_mut() {
+            if *word != 0 {
+                let r = first.saturating_add(word.trailing_zeros());
+                *word &= word.wrapping_sub(1);
+                return Some(r);
+            }
+            first = first.saturating_add(WORD);
+        }
+        None
+    }
+
+    /// Takes the greatest register out of a set without slots.
+    pub fn drop_greatest(&mut self) {
+        let mut left = *self;
+        let mut greatest = NONE;
+        for _ in 0..FIRST_SLOT {
+            let Some(r) = left.take_least() else {
+                break;
+            };
+            greatest = r;
+        }
+        *self = self.without(greatest);
     }
 
     /// The smallest register.
     pub fn least(self) -> u32 {
-        if self.mask == 0 {
-            NONE
-        } else {
-            self.mask.trailing_zeros()
+        if self.registers != 0 {
+            return self.registers.trailing_zeros();
         }
-    }
-}
-
-/// A set of a block's values, by their numbers modulo 128: two values whose numbers differ by 128 are in it together.
-#[derive(Clone, Copy, PartialEq)]
-pub struct ValueSet {
-    remainders: RegisterSet,
-}
-
-/// No value.
-pub const NO_VALUES: ValueSet = ValueSet { remainders: EMPTY };
-
-impl ValueSet {
-    /// Whether a value is in the set.
-    pub fn has(self, v: u32) -> bool {
-        self.remainders.has(v % 128)
-    }
-
-    /// With one value more.
-    pub fn with(self, v: u32) -> ValueSet {
-        ValueSet {
-            remainders: self.remainders.with(v % 128),
+        let mut first = FIRST_SLOT;
+        for word in self.slots {
+            if word != 0 {
+                return first.saturating_add(word.trailing_zeros());
+            }
+            first = first.saturating_add(WORD);
         }
-    }
-
-    /// With one value less.
-    pub fn without(self, v: u32) -> ValueSet {
-        ValueSet {
-            remainders: self.remainders.without(v % 128),
-        }
+        NONE
     }
 }
 

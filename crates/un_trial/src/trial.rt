@@ -9,51 +9,24 @@ mod moves;
 mod ranges;
 mod spills;
 
-use crate::facts::{BlockFacts, Needs, Operand, Operation, ROOM, Temporary};
+use crate::facts::{BlockFacts, Operand, Operation, Temporary};
+use crate::machine::{Machine, NO_NEEDS, Needs, RESOURCES, ROOM};
 use crate::pairs::Pairs;
-use crate::sets::{ALL, EMPTY, NO_VALUES, REGISTERS, RegisterSet, ValueSet};
+use crate::recipe::{Crossing, Manner, PLAIN, Recipe};
+use crate::sets::{ALL, EMPTY, REGISTERS, RegisterSet};
 use crate::table::{NONE, Table};
 use std::alloc::{AllocError, Global};
+use un_isa::packet_counts::Resource;
 
-/// What a trial does besides following its order.
-#[derive(Clone, Copy, PartialEq)]
-pub struct Manner {
-    /// Whether a saved value that ends in a register may be spilled in between.
-    pub spill_saved: bool,
-    /// Whether the link, which each call overwrites, is spilled before all else where there is a call.
-    pub link_first: bool,
-    /// The values that go to slots where they cross a call, and not to kept registers.
-    pub in_slots: ValueSet,
-    /// The values that are defined in any register and copied to a kept one at the call that they cross; the others that cross a call
-    /// are defined in a kept register, where one is free.
-    pub kept_late: ValueSet,
-    /// Whether a result that the next call reads as an argument is defined in the argument's register, where that is free.
-    pub to_arguments: bool,
-    /// Whether a call's result that crosses the next call is saved from that at once.
-    pub save_at_once: bool,
-}
-
-/// Nothing besides.
-pub const PLAIN: Manner = Manner {
-    spill_saved: false,
-    link_first: false,
-    in_slots: NO_VALUES,
-    kept_late: NO_VALUES,
-    to_arguments: false,
-    save_at_once: false,
-};
-
-/// What a trial is made of, besides its order and the places of the keys.
+/// What a trial is made of, besides its recipe and the places of the keys.
 #[derive(Clone, Copy)]
 pub struct Task<'a> {
+    /// The processor, and what may be used of it.
+    pub machine: &'a Machine,
     /// The block that is allocated and scheduled.
     pub block: &'a BlockFacts,
     /// Whether the function has a frame, so that there may be Spills and Reloads.
     pub frame: bool,
-    /// What it does besides following its order.
-    pub manner: Manner,
-    /// The general registers that may be assigned.
-    pub assignable: RegisterSet,
     /// The slots that no place uses.
     pub spare_slots: RegisterSet,
     /// What a schedule may be at most: the trial is given up once it ends later, or as late with more copies.
@@ -95,10 +68,15 @@ const NOWHERE: Stay = Stay {
     last_read: 0,
 };
 
-const NO_NEEDS: Needs = [0, 0, 0, 0, 0];
+/// Where the places for instructions stand among the needs.
+const PLACES: usize = Resource::Instructions as usize;
 
-/// An instruction that needs nothing but its place.
-const ONE: Needs = [1, 0, 0, 0, 0];
+/// What an instruction needs that needs nothing but its place.
+fn one_place() -> Needs {
+    let mut needs = NO_NEEDS;
+    needs[PLACES] = 1;
+    needs
+}
 
 /// How far a trial has come.
 #[derive(Clone, Copy)]
@@ -155,6 +133,9 @@ fn place_of(list: &[u32], item: u32) -> Option<u32> {
 #[derive(Drop)]
 pub struct Trial<'a> {
     task: Task<'a>,
+    manner: Manner,
+    /// Where each value stands that crosses a call.
+    crossing: Table<Crossing>,
     /// The places of all keys at the block's start and at its end.
     start: Table<u32>,
     finish: Table<u32>,
@@ -193,6 +174,8 @@ impl<'a> Trial<'a> {
     pub fn empty(alloc: Global, task: Task<'a>) -> Trial<'a> {
         Trial {
             task,
+            manner: PLAIN,
+            crossing: Table::of(Vec::new(alloc), Crossing::Kept),
             start: no_numbers(alloc, NONE),
             finish: no_numbers(alloc, NONE),
             order: no_numbers(alloc, NONE),
@@ -212,19 +195,21 @@ impl<'a> Trial<'a> {
         }
     }
 
-    /// Makes a trial of the task: a sweep over the order, with these places of the keys at the block's start and end. Answers the
-    /// block's end; None where a step cannot be made.
+    /// Makes a trial of the task: a sweep over the recipe's order, with these places of the keys at the block's start and end. Answers
+    /// the block's end; None where a step cannot be made.
     pub fn run(
         &mut self,
         task: Task<'a>,
         start: &[u32],
         finish: &[u32],
-        order: &[u32],
+        recipe: &Recipe,
     ) -> Result<Option<u32>, AllocError> {
         self.task = task;
         self.start.copy_from(start)?;
         self.finish.copy_from(finish)?;
-        self.order.copy_from(order)?;
+        self.manner = recipe.manner;
+        self.order.copy_from(recipe.order.as_slice())?;
+        self.crossing.copy_from(recipe.crossing.as_slice())?;
         self.clear()?;
         self.note_order()?;
         self.note_uses()?;
@@ -341,7 +326,7 @@ impl<'a> Trial<'a> {
     fn fits(&self, cycle: u32, needs: Needs) -> bool {
         let used = self.counts.at(cycle);
         let mut fits = true;
-        for k in 0..5 {
+        for k in 0..RESOURCES {
             fits = fits && used[k].saturating_add(needs[k]) <= ROOM[k];
         }
         fits
@@ -360,12 +345,12 @@ impl<'a> Trial<'a> {
 
     fn issue(&mut self, o: u32, cycle: u32, needs: Needs) {
         let mut used = self.counts.at(cycle);
-        for k in 0..5 {
+        for k in 0..RESOURCES {
             used[k] = used[k].saturating_add(needs[k]);
         }
         self.counts.put(cycle, used);
-        if cycle == self.marks.open_from && used[0] >= ROOM[0] {
-            self.marks.open_from = self.first_fit(cycle.saturating_add(1), ONE);
+        if cycle == self.marks.open_from && used[PLACES] >= ROOM[PLACES] {
+            self.marks.open_from = self.first_fit(cycle.saturating_add(1), one_place());
         }
         self.marks.last_cycle = self.marks.last_cycle.max(cycle);
         let end = cycle.saturating_add(self.task.block.tails.at(o));

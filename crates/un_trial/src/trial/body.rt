@@ -116,7 +116,7 @@ impl<'a> Trial<'a> {
 
     /// Where a result should stand: where the next call reads it, if the manner asks for that, else where it ends.
     fn wanted_place(&self, v: u32) -> u32 {
-        if self.task.manner.to_arguments && self.marks.next_call != NONE {
+        if self.manner.to_arguments && self.marks.next_call != NONE {
             let r = self.argument_register(v);
             if r != NONE {
                 return r;

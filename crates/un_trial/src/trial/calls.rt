@@ -3,7 +3,8 @@
 use super::Trial;
 use crate::facts::Operand;
 use crate::pairs::Pairs;
-use crate::sets::{ALL, CLOBBERED, EMPTY, GENERAL, PREDICATES};
+use crate::recipe::Crossing;
+use crate::sets::{ALL, EMPTY, GENERAL, PREDICATES};
 use crate::table::NONE;
 use un_isa::reg::{FIRST_SLOT, LINK};
 
@@ -11,6 +12,7 @@ impl<'a> Trial<'a> {
     /// The values that a call would destroy, by next use.
     fn endangered(&self) -> Option<Pairs> {
         let mut list = Pairs::new();
+        let spared = ALL.minus(self.task.machine.clobbered);
         let mut left = GENERAL.or(PREDICATES).minus(self.marks.vacant);
         for _ in 0..FIRST_SLOT {
             let Some(r) = left.take_least() else {
@@ -18,7 +20,7 @@ impl<'a> Trial<'a> {
             };
             let v = self.value_of(self.occupant.at(r));
             let next = self.use_behind.at(v);
-            if next != NONE && !self.has_root(v, ALL.minus(CLOBBERED), NONE) {
+            if next != NONE && !self.has_root(v, spared, NONE) {
                 list.insert(next, v)?;
             }
         }
@@ -30,7 +32,8 @@ impl<'a> Trial<'a> {
     fn save(&mut self, v: u32) -> Option<u32> {
         let x = self.temporary(v);
         let is_read_at_end = x.saved == LINK || self.use_behind.at(v) > self.length();
-        let to_slot = is_read_at_end && self.ends_in_slot(v) || self.task.manner.in_slots.has(v);
+        let to_slot = is_read_at_end && self.ends_in_slot(v)
+            || self.crossing.at(v) == Crossing::Slot;
         let (copy, from) = if self.is_resident(v) {
             (x.copy, v)
         } else {
@@ -106,7 +109,7 @@ impl<'a> Trial<'a> {
     /// Lets go what a call overwrites. Answers the cycle from which it may issue.
     fn clear_for_call(&mut self, earliest: u32) -> u32 {
         let mut from = earliest.max(self.marks.frame_from);
-        let mut left = CLOBBERED;
+        let mut left = self.task.machine.clobbered;
         for _ in 0..FIRST_SLOT {
             let Some(r) = left.take_least() else {
                 break;
@@ -120,7 +123,7 @@ impl<'a> Trial<'a> {
 
     /// Nothing starts before this cycle in a register that a call clobbers.
     fn close_clobbered(&mut self, from: u32) {
-        let mut left = CLOBBERED;
+        let mut left = self.task.machine.clobbered;
         for _ in 0..FIRST_SLOT {
             let Some(r) = left.take_least() else {
                 break;
@@ -143,7 +146,7 @@ impl<'a> Trial<'a> {
             self.release_if_dead(x.value);
         }
         if op.result != NONE {
-            self.occupy(op.result, 0, cycle, op.latency);
+            self.occupy(op.result, self.task.machine.result, cycle, op.latency);
             self.release_if_dead(op.result);
         }
     }
@@ -151,7 +154,7 @@ impl<'a> Trial<'a> {
     /// Saves a call's result from the next call at once, where it crosses that and the manner asks for it: its register is free then.
     fn save_result(&mut self, o: u32) -> Option<()> {
         let v = self.operation(o).result;
-        if self.task.manner.save_at_once && v != NONE && self.crosses(v) {
+        if self.manner.save_at_once && v != NONE && self.crosses(v) {
             self.marks.locked = EMPTY;
             self.save(v)?;
             self.release(v);

@@ -1,15 +1,24 @@
 //! The choice of registers.
 
 use super::Trial;
-use crate::sets::{GENERAL, KEPT, PREDICATES, RegisterSet};
+use crate::sets::{GENERAL, PREDICATES, RegisterSet};
 use crate::table::NONE;
 use un_isa::reg::FIRST_SLOT;
+
+/// What speaks against a register for each cycle that it is free later.
+const LATER: u64 = 3;
+
+/// What speaks against a register that is not the hint: the hint is taken where it is free a cycle later, too.
+const OTHER: u64 = 4;
+
+/// What speaks against one in which another value ends: it is taken where it is free a cycle earlier.
+const ENDING: u64 = 5;
 
 impl<'a> Trial<'a> {
     /// What speaks against a register: the cycle from which a value can stand there, and a taste.
     fn score(&self, r: u32, earliest: u32, taste: u64) -> u64 {
         let start = u64::from(earliest.max(self.free_from.at(r)));
-        start.saturating_mul(64).saturating_add(taste)
+        start.saturating_mul(LATER).saturating_add(taste)
     }
 
     /// The free register that is free first; the hint is preferred, places of others at the end are spared.
@@ -21,7 +30,9 @@ impl<'a> Trial<'a> {
             best = hint;
             least = self.score(hint, earliest, 0);
         }
-        let floor = u64::from(earliest).saturating_mul(64).saturating_add(80);
+        let floor = u64::from(earliest)
+            .saturating_mul(LATER)
+            .saturating_add(OTHER);
         for _ in 0..FIRST_SLOT {
             let Some(r) = left.take_least() else {
                 break;
@@ -29,7 +40,11 @@ impl<'a> Trial<'a> {
             if least <= floor {
                 break;
             }
-            let taste = if self.marks.ends_in.has(r) { 100 } else { 80 };
+            let taste = if self.marks.ends_in.has(r) {
+                ENDING
+            } else {
+                OTHER
+            };
             let score = self.score(r, earliest, taste);
             if score < least {
                 least = score;
@@ -49,13 +64,13 @@ impl<'a> Trial<'a> {
         if self.ends_in_slot(t) {
             return 0;
         }
-        if self.task.manner.spill_saved { 1 } else { 2 }
+        if self.manner.spill_saved { 1 } else { 2 }
     }
 
     /// A kept register for a value that crosses a call: a free one, else that of a saved value which goes to a slot anyway, or
     /// which may be spilled.
     pub(super) fn take_kept(&mut self, earliest: u32, hint: u32) -> u32 {
-        let set = KEPT.and(self.task.assignable);
+        let set = self.task.machine.kept.and(self.task.machine.assignable);
         let free = self.best_free(set, earliest, hint);
         if free != NONE {
             return free;
@@ -77,7 +92,7 @@ impl<'a> Trial<'a> {
     }
 
     pub(super) fn take_general(&mut self, earliest: u32, hint: u32, crosses: bool) -> Option<u32> {
-        let set = self.task.assignable.and(GENERAL);
+        let set = self.task.machine.assignable.and(GENERAL);
         let kept = if crosses {
             self.take_kept(earliest, hint)
         } else {

@@ -97,6 +97,22 @@ impl<'a> Trial<'a> {
         self.issue(leave, cycle, op.needs);
     }
 
+    /// From which cycle on the terminator may read what it tests; 0 where it tests nothing.
+    fn tested_from(&self, tested: u32) -> u32 {
+        if tested == NONE {
+            return 0;
+        }
+        let definer = self.operation(self.temporary(tested).definer);
+        let given = if definer.instruction == NONE {
+            definer.op
+        } else {
+            self.task.machine.copy(self.value(definer.instruction)).op
+        };
+        let user = self.operation(self.task.block.terminator).op;
+        let gap = self.task.machine.gap(given, user);
+        self.stays.at(tested).defined.saturating_add(gap)
+    }
+
     /// Issues the terminator in the last packet, where there is one. Answers the block's end.
     fn place_terminator(&mut self, tested: u32, end: u32) -> u32 {
         let terminator = self.task.block.terminator;
@@ -104,7 +120,7 @@ impl<'a> Trial<'a> {
             return end;
         }
         let needs = self.operation(terminator).needs;
-        let ready = self.ready(terminator).max(self.stays.at(tested).available);
+        let ready = self.ready(terminator).max(self.tested_from(tested));
         let cycle = self.first_fit(ready.max(end.saturating_sub(1)), needs);
         self.issue(terminator, cycle, needs);
         cycle.saturating_add(1)
@@ -141,7 +157,7 @@ impl<'a> Trial<'a> {
 
     /// The link leaves its register before a call needs it to, where the manner asks for it: stores have room then.
     fn save_link(&mut self) -> Option<()> {
-        if !self.task.manner.link_first || !self.task.frame || self.calls.is_empty() {
+        if !self.manner.link_first || !self.task.frame || self.calls.is_empty() {
             return Some(());
         }
         for t in &self.task.block.input {

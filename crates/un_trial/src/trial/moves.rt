@@ -3,9 +3,12 @@
 
 use super::{Trial, place_of};
 use crate::facts::{Operand, copy_instruction};
+use crate::machine::{NO_NEEDS, Needs, RESOURCES};
 use crate::pairs::{LAST, Pair, Pairs};
 use crate::sets::{GENERAL, PREDICATES, RegisterSet, Space, space_at};
 use crate::table::NONE;
+use un_ir::extended::MOVE;
+use un_isa::packet_counts::PACKET;
 use un_isa::reg::FIRST_SLOT;
 
 impl<'a> Trial<'a> {
@@ -156,7 +159,7 @@ impl<'a> Trial<'a> {
 
     /// One of the values in the way goes to a free register by its copy d.
     fn break_ring(&mut self, wanted: &Pairs) -> Option<()> {
-        let free = self.best_free(self.task.assignable.and(GENERAL), 0, NONE);
+        let free = self.best_free(self.task.machine.assignable.and(GENERAL), 0, NONE);
         for i in 0..wanted.len() {
             let register = wanted.at(i).item;
             let t = self.occupant.at(register);
@@ -190,7 +193,7 @@ impl<'a> Trial<'a> {
         let mut ring = Pairs::new();
         let first = wanted.at(0);
         let mut register = first.item;
-        for _ in 0..4 {
+        for _ in 0..PACKET {
             let t = self.occupant.at(register);
             let next = self.waiting_for(operands, t, wanted)?;
             if self.space_of(t) != Space::General || space_at(next.item) != Space::General {
@@ -205,6 +208,17 @@ impl<'a> Trial<'a> {
         None
     }
 
+    /// What so many moves need of one packet.
+    fn moves(&self, count: u32) -> Needs {
+        let one = self.task.machine.copy(MOVE).needs;
+        let factor = u8::try_from(count).unwrap_or(u8::MAX);
+        let mut all = NO_NEEDS;
+        for k in 0..RESOURCES {
+            all[k] = one[k].saturating_mul(factor);
+        }
+        all
+    }
+
     /// Moves that wait for each other in a ring, as in an exchange of two registers: all issue in one cycle.
     fn rotate(&mut self, operands: &[Operand], ring: &Pairs) -> Option<Pairs> {
         let mut sources = Pairs::new();
@@ -217,8 +231,7 @@ impl<'a> Trial<'a> {
             sources.push(ring.at(i).place, t)?;
             register = ring.at(i).item;
         }
-        let count = u8::try_from(ring.len()).unwrap_or(u8::MAX);
-        let cycle = self.first_fit(earliest, [count, 0, 0, 0, 0]);
+        let cycle = self.first_fit(earliest, self.moves(ring.len()));
         for i in 0..sources.len() {
             self.read_at(sources.at(i).item, cycle);
             self.release(sources.at(i).item);

@@ -2,6 +2,7 @@
 
 use super::{Stay, Trial};
 use crate::facts::Operand;
+use crate::recipe::Crossing;
 use crate::sets::{ALL, REGISTERS, RegisterSet, SLOTS, Space, space_at};
 use crate::table::NONE;
 use un_isa::reg::FIRST_SLOT;
@@ -84,8 +85,7 @@ impl<'a> Trial<'a> {
 
     /// Whether a value is to stand in a kept register before the call that it crosses.
     pub(super) fn wants_kept(&self, v: u32) -> bool {
-        let manner = &self.task.manner;
-        self.crosses(v) && !manner.in_slots.has(v) && !manner.kept_late.has(v)
+        self.crosses(v) && self.crossing.at(v) == Crossing::Kept
     }
 
     /// Whether a temporary that every later reader of a value may choose stands in one of these registers, another than `t`.

@@ -1,7 +1,7 @@
 //! Copies, spills and evictions.
 
 use super::Trial;
-use crate::facts::{copy_instruction, copy_latency, copy_needs};
+use crate::facts::copy_instruction;
 use crate::sets::{REGISTERS, RegisterSet, Space, space_at};
 use crate::table::NONE;
 use un_ir::extended::{RELOAD, SPILL};
@@ -28,8 +28,9 @@ impl<'a> Trial<'a> {
             .available
             .max(self.free_from.at(register))
             .max(from);
-        let cycle = self.first_fit(ready, copy_needs(instruction));
-        self.issue(o, cycle, copy_needs(instruction));
+        let made = self.task.machine.copy(instruction);
+        let cycle = self.first_fit(ready, made.needs);
+        self.issue(o, cycle, made.needs);
         if touches {
             self.marks.last_touch = self.marks.last_touch.max(cycle);
         }
@@ -38,7 +39,7 @@ impl<'a> Trial<'a> {
         self.marks.least.copies = self.marks.least.copies.saturating_add(1);
         self.set(op.instruction, instruction);
         self.choose(op.operands.first()?, source)?;
-        self.occupy(op.result, register, cycle, copy_latency(instruction));
+        self.occupy(op.result, register, cycle, made.latency);
         Some(op.result)
     }
 
@@ -111,7 +112,7 @@ impl<'a> Trial<'a> {
             return 0;
         }
         let clean = elsewhere || self.ends_in_slot(v);
-        if x.saved != NONE && x.saved != LINK && !clean && !self.task.manner.spill_saved {
+        if x.saved != NONE && x.saved != LINK && !clean && !self.manner.spill_saved {
             return 1;
         }
         let distance = u64::from(next.saturating_sub(self.marks.position));
