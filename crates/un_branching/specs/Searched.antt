@@ -1,5 +1,5 @@
 -- What the looks, the expansions and the end of a search say.
-use Rattle.std.specs.Prelude.{ℕ, ◌≡◌, List, None, MatchOption, ⊤}
+use Rattle.std.specs.Prelude.{ℕ, ◌≡◌, List, None, MatchOption}
 use Rattle.std.specs.declared.option.Option.{Option}
 use Rattle.un_domains.specs.Sets.{Sets, IsSingle}
 use Rattle.un_prop.specs.declared.side.Side.TheVariants.{AtMost, Above}
@@ -34,9 +34,3 @@ module _ (fix : Sets → Option Sets) (least : Sets → ℕ → Type 0) (good : 
     pub splits : MatchOption (fix b) ⊥ (λ f. Splits f e.var e.val)
     pub left : IsLook (half b e.var e.val AtMost) e.left
     pub right : IsLook (half b e.var e.val Above) e.right
-
--- a fact that is wanted where the rounds leave a choice
-abbrev pub WhenOpen : Look → Type 0 → Type 0
-WhenOpen Failed P = ⊤
-WhenOpen (Found x) P = ⊤
-WhenOpen (Alive l) P = P

@@ -130,6 +130,7 @@ fn search<P: Problem>(
     requires choice { IsOpenBox (P.fix problem.now) (P.root problem.now) }
     requires least { P.least problem.now (P.root problem.now) least }
     requires some { 0 < nodes }
+    ensures ready { IfOk result (λ t. P.is_ready problem.now room.new) }
     ensures tried { IfOk result
         (IsTried (P.root problem.now) (P.fix problem.now) (P.least problem.now) (P.is_good problem.now) nodes) }
     ensures first { nodes < 3 → IfOk result
@@ -165,6 +166,7 @@ pub fn attempt<P: Problem>(
     requires fresh { P.is_fresh problem.now room.old }
     requires full { NoneEmpty (P.root problem.now) }
     requires some { 0 < nodes }
+    ensures ready { IfOk result (λ t. P.is_ready problem.now room.new) }
     ensures tried { IfOk result
         (IsTried (P.root problem.now) (P.fix problem.now) (P.least problem.now) (P.is_good problem.now) nodes) }
     ensures first { nodes < 3 → IfOk result

@@ -5,7 +5,7 @@ ghost use Rattle.un_domains.specs.Sets.{Sets, IsIn, NoneEmpty};
 ghost use Rattle.un_domains.specs.Order.{Below};
 ghost use Rattle.un_tree.specs.Boxes.{reached, IsBox};
 ghost use Rattle.un_tree.specs.Searched.{IsOpenBox};
-ghost use Rattle.un_branching.specs.Searched.{IsLook, IsExpansion, WhenOpen};
+ghost use Rattle.un_branching.specs.Searched.{IsLook, IsExpansion};
 
 use un_base::ids::VarId;
 use un_base::memory_error::NoMemory;
@@ -59,7 +59,7 @@ pub trait Problem {
     /// Looks at the first box.
     fn first(&self, room: &mut Self::Room) -> Result<Look, NoMemory>
         requires { is_fresh self.now room.old }
-        ensures ready { IfOk result (λ look. WhenOpen look (is_ready self.now room.new)) }
+        ensures ready { IfOk result (λ look. is_ready self.now room.new) }
         ensures look { IfOk result (λ look. IsLook (fix self.now) (least self.now) (is_good self.now) (root self.now) look) };
 
     /// Chooses at the box that these decisions lead to, and looks at its sides.

@@ -1,2 +1,4 @@
+pub mod Lowest
 pub mod Lows
 pub mod Numbers
+pub mod Posting

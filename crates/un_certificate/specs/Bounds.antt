@@ -1,10 +1,17 @@
 -- The bound that a tree shows: no solution of the model costs less.
-use Rattle.std.specs.Prelude.{ℕ, ◌≡◌, ◌≤◌, ◌⊎◌, List, All, Contains, max}
+use Rattle.std.specs.Prelude.{ℕ, ◌≡◌, ◌≢◌, ◌≤◌, ◌⊎◌, List, All, Contains, None, Some, max}
+use Rattle.std.specs.declared.option.Option.{Option}
 use Rattle.un_model.specs.declared.model.Model.{Model}
 use Rattle.un_bound.specs.Plain.{IsPlainBound}
 use Rattle.un_bound.specs.Relaxations.{IsLeast}
-use Rattle.un_tree.specs.Searched.{HasAtLeast, HasLeast}
+use Rattle.un_tree.specs.Searched.{HasAtLeast, HasLeast, IsLowest}
 use Rattle.un_tree.specs.Waits.{Visit}
+use Rattle.un_tree.specs.declared.node.Node.TheVariants.{Open}
+
+-- the least of the least costs in open leaves' boxes, or that no leaf is open
+abbrev pub IsLeastOpen : Model → List Visit → Option ℕ → Type 0
+IsLeastOpen m ps None = All (λ (p : Visit). p.node ≢ Open) ps
+IsLeastOpen m ps (Some low) = IsLowest (IsLeast m) ps low
 
 -- the least of a limit and of the least costs in the open leaves' boxes
 pub record IsLowestUnder (m : Model) (c : ℕ) (ps : List Visit) (low : ℕ) : Type 0 where

@@ -1,2 +1,4 @@
 pub mod Bounds
 pub mod Certificates
+pub mod ModelLaws
+pub mod Posted

@@ -2,4 +2,5 @@
 //! than the tree's bound.
 #![tactic(auto)]
 
+pub mod bound;
 pub mod laws;

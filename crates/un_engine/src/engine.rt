@@ -1,6 +1,7 @@
 //! An engine: propagators with a store, and all that runs of them need.
 
 ghost use Rattle.std.specs.Prelude.{◌≡◌, ℕ, ◌<◌, ◌≤◌, List, [], ◌∷◌, ◌++◌, length, All, IfOk, OnOk, OnErr, None, Some, option_and_then};
+ghost use Rattle.std.specs.Prelude.{slice_index_or, slice_set};
 ghost use Rattle.un_domains.specs.Sets.{Sets, NoneEmpty, cut_by};
 ghost use Rattle.un_prop.specs.Rounds.{HasVars, fix_of};
 ghost use Rattle.un_prop.specs.Pruning.{IsFix};
@@ -92,6 +93,37 @@ impl<P: Propagator + Drop> Engine<P> {
                 sizes,
             })),
         }
+    }
+
+    /// Puts a propagator of the same variables in the place of one that changes no sets that it leaves as they are, and runs what that
+    /// wakes: at first it alone. Where it fails, some set is empty from then on. It takes no memory.
+    pub fn tighten(&mut self, at: usize, p: P) -> Fix
+        requires there { at < length self.old.props }
+        requires live { NoneEmpty self.old.store.sets }
+        requires fresh { self.old.store.marked ≡ [] }
+        requires scope { P.scope p ≡ P.scope (slice_index_or self.old.props at p) }
+        requires span { P.span p ≤ P.span (slice_index_or self.old.props at p) }
+        requires stricter { (s : Sets) → NoneEmpty s → HasVars (P.scope p) s → P.cut p s ≡ Some s
+            → P.cut (slice_index_or self.old.props at p) s ≡ Some s }
+        ensures props { self.new.props ≡ slice_set self.old.props at p }
+        ensures long { length self.new.store.sets ≡ length self.old.store.sets }
+        ensures fresh { self.new.store.marked ≡ [] }
+
+        // From what the rounds leave of a box to what they leave of it with the new one.
+        ensures fix { (box : Sets) → NoneEmpty box → length box ≡ length self.old.store.sets
+            → fix_of P.cut self.old.props box ≡ Some self.old.store.sets
+            → IsFix (fix_of P.cut (slice_set self.old.props at p) box) self.new.store.sets result }
+    {
+        self.props[at] = p;
+        self.waiting.raise(at);
+        run_from(
+            self.props.as_slice(),
+            &self.readers,
+            &mut self.store,
+            &mut self.scratch,
+            &mut self.waiting,
+            &mut self.sizes,
+        )
     }
 
     /// The store.

@@ -1,6 +1,6 @@
 //! A list of propagators, seen as what they ask for.
 
-ghost use Rattle.std.specs.Prelude.{◌≡◌, [], ◌∷◌, ◌++◌, All, OnOk, map};
+ghost use Rattle.std.specs.Prelude.{◌≡◌, [], ◌∷◌, ◌++◌, All, OnOk, length, map};
 ghost use Rattle.un_kinds.specs.Constraints.{Constraint};
 ghost use Rattle.un_kinds.specs.AnyProps.{constraint_of};
 ghost use Rattle.un_kinds.specs.Scopes.{IsTight};
@@ -45,6 +45,13 @@ impl Props {
     /// The allocator of the list.
     pub fn alloc(&self) -> Global {
         self.alloc
+    }
+
+    /// How many there are.
+    pub fn len(&self) -> usize
+        ensures { result ≡ length self.now }
+    {
+        self.list.len()
     }
 
     /// One propagator more at the end.

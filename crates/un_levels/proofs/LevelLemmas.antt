@@ -15,10 +15,7 @@ use Rattle.un_prop.specs.Steps.{kept_below}
 use Rattle.un_base.specs.declared.ids.VarId.{VarId}
 use Rattle.un_tree.specs.declared.node.Decision.{Decision}
 use Rattle.un_tree.specs.Boxes.{IsBox, Splits, half, decided, reached}
-use Rattle.un_branching.specs.declared.problem.Look.{Look}
-use Rattle.un_branching.specs.declared.problem.Look.TheVariants.{Failed, Found, Open as Alive}
 use Rattle.un_tree.specs.Searched.{IsOpenBox, HasTwo}
-use Rattle.un_branching.specs.Searched.{WhenOpen}
 use Rattle.un_levels.specs.Levels.{Sheet, IsEnd, IsReady, IsRun, IsCutTo, Leveled, AtPath, ways}
 use Rattle.un_branching.proofs.BoxLemmas.{half_box}
 use Rattle.un_branching.proofs.WalkLemmas.{reached-push}
@@ -243,11 +240,6 @@ stopped (Some f) s stable is h = ap (λ (t : Sets). Some t) (sym h.1)
 
 pub run_of : (c : Option Sets) (s : Sets) → c ≡ Some s → IsRun c s true
 run_of c s e = subst (λ (d : Option Sets). IsRun d s true) (sym e) (refl, refl)
-
-pub when_open : (look : Look) (P : Type 0) → P → WhenOpen look P
-when_open Failed P p = tt
-when_open (Found x) P p = tt
-when_open (Alive l) P p = p
 
 -- stores that are as before are ready as before
 pub ready_kept : (root : Sets) (fix : Sets → Option Sets) (ds es : List Decision) (box box' ends ends' : Sheet) (F G : Type 0)

@@ -3,7 +3,7 @@
 ghost use Rattle.std.specs.Prelude.{◌≡◌, ℕ, ◌+◌, ◌<◌, ◌≤◌, List, [], ◌∷◌, ◌++◌, All, length, take, Some, None, IfOk, OnOk, IsTrue, ◌↔◌, ◌≢◌, slice_get};
 ghost use Rattle.un_tree.specs.Boxes.{IsBox, Splits, decided, reached};
 ghost use Rattle.un_tree.specs.Searched.{HasTwo, IsOpenBox};
-ghost use Rattle.un_branching.specs.Searched.{IsLook, IsExpansion, WhenOpen};
+ghost use Rattle.un_branching.specs.Searched.{IsLook, IsExpansion};
 ghost use Rattle.un_levels.specs.Levels.{AtPath, IsCutTo, IsReady, IsRun};
 
 use crate::rounds::{Choice, Rounds};
@@ -65,6 +65,17 @@ fn rise<R: Rounds>(rounds: &R, room: &mut Levels<R::Stores>, keep: usize)
         rounds.leave(&mut room.stores);
         room.path.pop();
     }
+}
+
+/// Goes back to the first box.
+pub fn to_first<R: Rounds>(rounds: &R, room: &mut Levels<R::Stores>)
+    requires ready { IsReady (R.root rounds.now) (R.fix rounds.now) room.old.path.items (R.cuts room.old.stores) (R.ends room.old.stores)
+        (R.is_fit rounds.now room.old.stores) }
+    ensures ready { IsReady (R.root rounds.now) (R.fix rounds.now) room.new.path.items (R.cuts room.new.stores) (R.ends room.new.stores)
+        (R.is_fit rounds.now room.new.stores) }
+    ensures first { room.new.path.items ≡ [] }
+{
+    rise(rounds, room, 0);
 }
 
 /// Adds a decision.
@@ -314,8 +325,8 @@ fn first<R: Rounds>(rounds: &R, room: &mut Levels<R::Stores>) -> Result<Look, No
     requires fresh { room.old.path.items ≡ [] }
     requires ready { IsReady (R.root rounds.now) (R.fix rounds.now) room.old.path.items (R.cuts room.old.stores) (R.ends room.old.stores)
         (R.is_fit rounds.now room.old.stores) }
-    ensures ready { IfOk result (λ look. WhenOpen look (IsReady (R.root rounds.now) (R.fix rounds.now) room.new.path.items
-        (R.cuts room.new.stores) (R.ends room.new.stores) (R.is_fit rounds.now room.new.stores))) }
+    ensures ready { IfOk result (λ look. IsReady (R.root rounds.now) (R.fix rounds.now) room.new.path.items
+        (R.cuts room.new.stores) (R.ends room.new.stores) (R.is_fit rounds.now room.new.stores)) }
     ensures look { IfOk result (IsLook (R.fix rounds.now) (R.least rounds.now) (R.is_good rounds.now) (R.root rounds.now)) }
 {
     let look = look_at(rounds, room, true)?;

@@ -27,9 +27,10 @@ pub mod Latencies
 pub mod LeastValues
 pub mod Lengths
 pub mod Limits
+pub mod Lowering
 pub mod Meeting
-pub mod ModelDomains
 pub mod Memory
+pub mod ModelDomains
 pub mod NoSharing
 pub mod OfPlaces
 pub mod OfRooms

@@ -64,7 +64,7 @@ scope_none [] (u ∷ us) s z = let h : false ≡ true = s.same u ∙ first_among
 
 -- ---- one propagator
 
-span_is : (p : AnyProp) → span_of p ≡ cycles_of (constraint_of p)
+pub span_is : (p : AnyProp) → span_of p ≡ cycles_of (constraint_of p)
 span_is (Before p) = refl
 span_is (Reads p) = refl
 span_is (Inside p) = refl

@@ -1,2 +1,4 @@
+pub mod Lowered
+pub mod Postable
 pub mod Posts
 pub mod Strength

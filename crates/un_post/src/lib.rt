@@ -1,6 +1,7 @@
 //! What is posted for a model: the propagators that hold exactly at its solutions.
 #![tactic(auto)]
 
+pub mod lower;
 pub mod post;
 mod post_parts;
 pub mod post_store;

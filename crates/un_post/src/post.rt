@@ -11,6 +11,7 @@ ghost use Rattle.un_domains.specs.Sets.{Sets, NoneEmpty};
 ghost use Rattle.un_prop.specs.Rounds.{fix_of};
 ghost use Rattle.un_sites.specs.Befores.{all_postings_of};
 ghost use Rattle.un_sites.specs.Places.{definers_of, places_of};
+ghost use Rattle.un_post.specs.Lowered.{limit_place};
 ghost use Rattle.un_post.specs.Posts.{IsExact, ReadsFrom, IsGrounded, SpansAtMost, FailsWhereEmpty, FailsWhereOverfull, fix_at, largest_horizon};
 ghost use Rattle.un_kinds.specs.Scopes.{IsTight};
 ghost use Rattle.un_sites.specs.Sites.{place_of, definers_in};
@@ -35,27 +36,39 @@ pub struct Posted {
     pub store: Store,
     /// The largest horizon of a block, in cycles: no propagator counts over more.
     pub horizon: u32,
+    /// The place of the limit's propagator among them; where it would stand, where there is no limit.
+    pub limit_at: usize,
+}
+
+/// Propagators, and the place of the limit's among them.
+#[derive(Drop)]
+struct Listed {
+    props: Props,
+    limit_at: usize,
 }
 
 /// The store and the horizon of a model, with propagators for it.
 #[tactic(auto, using(crate::proofs::ModelDomains::domains_are))]
-fn with_store(alloc: Global, m: &Model, props: Props) -> Result<Posted, NoMemory>
+fn with_store(alloc: Global, m: &Model, listed: Listed) -> Result<Posted, NoMemory>
     requires model { IsModel m.now }
     requires extended { IsExtended m.now.ext }
     requires fit { IsFit m.now.ext.table }
     requires options { AreOptions m.now.options }
-    ensures asks { IfOk result (λ p. map constraint_of p.props.items ≡ props) }
+    ensures asks { IfOk result (λ p. map constraint_of p.props.items ≡ listed.props) }
     ensures sets { IfOk result (λ p. p.store.sets ≡ map values_of m.now.domains) }
     ensures marked { IfOk result (λ p. p.store.marked ≡ []) }
     ensures horizon { IfOk result (λ p. p.horizon ≡ largest_horizon m.now.ext.blocks) }
     ensures tight { IfOk result (λ p. All IsTight p.props.items) }
+    ensures limited { IfOk result (λ p. p.limit_at ≡ listed.limit_at) }
 {
+    let Listed { props, limit_at } = listed;
     let store = store_of(alloc, m.domains.as_slice())?;
     let horizon = largest_horizon(m.ext.blocks.as_slice());
     Ok(Posted {
         props: props.into_vec(),
         store,
         horizon,
+        limit_at,
     })
 }
 
@@ -66,24 +79,26 @@ fn with_tables(
     limit: Option<u64>,
     sites: &[Site<'_>],
     spots: &[Spot<'_>],
-) -> Result<Props, NoMemory>
+) -> Result<Listed, NoMemory>
     requires sites { definers_in sites.now ≡ definers_of m.now }
     requires spots { map place_of spots.now ≡ places_of m.now }
-    ensures { IfOk result (λ ps. ps ≡ all_postings_of m.now limit) }
+    ensures asks { IfOk result (λ l. l.props ≡ all_postings_of m.now limit) }
+    ensures limited { IfOk result (λ l. l.limit_at ≡ limit_place m.now) }
 {
     let mut props = Props::new(alloc);
-    post_each(&mut props, m, limit, sites, spots)?;
-    Ok(props)
+    let limit_at = post_each(&mut props, m, limit, sites, spots)?;
+    Ok(Listed { props, limit_at })
 }
 
 /// The propagators of a model.
-fn all_props(alloc: Global, m: &Model, limit: Option<u64>) -> Result<Props, NoMemory>
-    ensures { IfOk result (λ ps. ps ≡ all_postings_of m.now limit) }
+fn all_props(alloc: Global, m: &Model, limit: Option<u64>) -> Result<Listed, NoMemory>
+    ensures asks { IfOk result (λ l. l.props ≡ all_postings_of m.now limit) }
+    ensures limited { IfOk result (λ l. l.limit_at ≡ limit_place m.now) }
 {
     let spots = all_spots(alloc, m)?;
     let sites = all_sites(alloc, spots.as_slice(), m.temps.as_slice())?;
-    let props = with_tables(alloc, m, limit, sites.as_slice(), spots.as_slice())?;
-    Ok(props)
+    let listed = with_tables(alloc, m, limit, sites.as_slice(), spots.as_slice())?;
+    Ok(listed)
 }
 
 /// What is posted for a model under a limit on the cost, or none. It fails where memory is short, or where there are more
@@ -109,13 +124,16 @@ pub fn post(alloc: Global, m: &Model, limit: Option<u64>) -> Result<Posted, NoMe
     ensures spans { IfOk result (λ p. All (SpansAtMost p.horizon) p.props.items) }
     ensures fails { IfOk result (λ p. FailsWhereEmpty m.now limit p.store.sets p.props.items) }
 
+    // A limit's propagator stands at one place of the list, whatever the limit is.
+    ensures limited { IfOk result (λ p. p.limit_at ≡ limit_place m.now) }
+
     // They fail, too, where more values are there in a cycle, or cross a call, than there is room for.
     ensures overfull { IfOk result (λ p. FailsWhereOverfull m.now p.store.sets p.props.items) }
 
     // What rounds leave of a box is one function of the model, the limit and the box, whichever list was posted.
     ensures fixed { IfOk result (λ p. (box : Sets) → fix_of cut_of p.props.items box ≡ fix_at m.now limit box) }
 {
-    let props = all_props(alloc, m, limit)?;
-    let posted = with_store(alloc, m, props)?;
+    let listed = all_props(alloc, m, limit)?;
+    let posted = with_store(alloc, m, listed)?;
     Ok(posted)
 }

@@ -1,12 +1,13 @@
 //! What is posted for a model, part by part.
 
-ghost use Rattle.std.specs.Prelude.{◌≡◌, ◌++◌, OnOk, map};
+ghost use Rattle.std.specs.Prelude.{◌≡◌, ◌+◌, ◌++◌, IfOk, OnOk, length, map};
 ghost use Rattle.un_sites.specs.Befores.{all_postings_of, lengths_of};
 ghost use Rattle.un_sites.specs.Places.{definers_of, places_of};
 ghost use Rattle.un_sites.specs.Postings.{postings_of};
 ghost use Rattle.un_sites.specs.Pressures.{pressures_of};
 ghost use Rattle.un_sites.specs.Rooms.{rooms_of};
 ghost use Rattle.un_sites.specs.Sites.{place_of, definers_in};
+ghost use Rattle.un_post.specs.Lowered.{limit_place};
 
 use un_base::memory_error::NoMemory;
 use un_kinds::props::Props;
@@ -24,7 +25,8 @@ use un_single::post_limit::post_limit;
 use un_single::post_places::post_operations;
 use un_sites::sites::{Site, Spot};
 
-/// What is posted of single operations, of edges, of the frame and of the cost of a model, of which these are the tables.
+/// What is posted of single operations, of edges, of the frame and of the cost of a model, of which these are the tables. Answers the
+/// place of the limit's propagator, or where it would stand.
 #[tactic(auto, using(un_kinds::proofs::Appends::four_added))]
 fn post_single(
     props: &mut Props,
@@ -32,16 +34,18 @@ fn post_single(
     limit: Option<u64>,
     sites: &[Site<'_>],
     spots: &[Spot<'_>],
-) -> Result<(), NoMemory>
+) -> Result<usize, NoMemory>
     requires sites { definers_in sites.now ≡ definers_of m.now }
     requires spots { map place_of spots.now ≡ places_of m.now }
-    ensures { OnOk result (props.new ≡ props.old ++ postings_of m.now limit) }
+    ensures added { IfOk result (λ at. props.new ≡ props.old ++ postings_of m.now limit) }
+    ensures place { IfOk result (λ at. at ≡ length props.old + limit_place m.now) }
 {
     post_operations(props, m, sites, spots)?;
     post_edges(props, m, sites)?;
     post_frame(props, m, sites, spots)?;
+    let at = props.len();
     post_limit(props, m, limit)?;
-    Ok(())
+    Ok(at)
 }
 
 /// What is posted of registers, calls, packets and two operands of a model, of which these are the tables.
@@ -80,7 +84,7 @@ fn post_implied(
     Ok(())
 }
 
-/// All that is posted for a model, of which these are the tables.
+/// All that is posted for a model, of which these are the tables. Answers the place of the limit's propagator, or where it would stand.
 #[tactic(auto, using(un_kinds::proofs::Appends::four_added))]
 pub fn post_each(
     props: &mut Props,
@@ -88,14 +92,15 @@ pub fn post_each(
     limit: Option<u64>,
     sites: &[Site<'_>],
     spots: &[Spot<'_>],
-) -> Result<(), NoMemory>
+) -> Result<usize, NoMemory>
     requires sites { definers_in sites.now ≡ definers_of m.now }
     requires spots { map place_of spots.now ≡ places_of m.now }
-    ensures { OnOk result (props.new ≡ props.old ++ all_postings_of m.now limit) }
+    ensures added { IfOk result (λ at. props.new ≡ props.old ++ all_postings_of m.now limit) }
+    ensures place { IfOk result (λ at. at ≡ length props.old + limit_place m.now) }
 {
-    post_single(props, m, limit, sites, spots)?;
+    let at = post_single(props, m, limit, sites, spots)?;
     post_arcs(props, m, spots)?;
     post_rooms(props, m, sites, spots)?;
     post_implied(props, m, sites, spots)?;
-    Ok(())
+    Ok(at)
 }

@@ -91,7 +91,7 @@ module _ (vs : List VarId) (es : List Weighted) (limit : ℕ) (h : BelowVars vs 
         (λ e there. ap least (All-contains (λ u. set_at s u.0 ≡ set_at t u.0) vs e.end agree (in_list vs e.end there))) es among_all));
   }
 
-  fails_lawful : Lawful vs (first_cut (below_test es limit) vs)
+  pub fails_lawful : Lawful vs (first_cut (below_test es limit) vs)
   fails_lawful = first_lawful (below_test es limit) vs below_lawful_test
 
   -- the least ends of a smaller store are no sooner
@@ -105,7 +105,7 @@ module _ (vs : List VarId) (es : List Weighted) (limit : ℕ) (h : BelowVars vs 
   alike s t agree = each (λ e. among vs e.end ≡ true) (λ e. least (set_at s e.end.0) ≡ least (set_at t e.end.0))
       (λ e there. ap least (All-contains (λ u. set_at s u.0 ≡ set_at t u.0) vs e.end agree (in_list vs e.end there))) es among_all
 
-  among_end : (e : Weighted) → Contains es e → among vs e.end ≡ true
+  pub among_end : (e : Weighted) → Contains es e → among vs e.end ≡ true
   among_end e there = All-contains (λ (d : Weighted). among vs d.end ≡ true) es e h there
 
   end_lawful_test : (e : Weighted) → Contains es e → LawfulTest vs (end_test es limit e)
@@ -123,13 +123,13 @@ module _ (vs : List VarId) (es : List Weighted) (limit : ℕ) (h : BelowVars vs 
         ∙ ap (λ (n : ℕ). nat_lt (least_cost es t + e.freq * (y - 1 - (n - 1))) limit) one);
   }
 
-  end_lawful : (e : Weighted) → Contains es e → Lawful vs (end_cut es limit e)
+  pub end_lawful : (e : Weighted) → Contains es e → Lawful vs (end_cut es limit e)
   end_lawful e there = lawful_cut_by vs e.end (end_test es limit e) (in_list vs e.end (among_end e there)) (end_lawful_test e there)
 
-  each_lawful_end : (ds : List Weighted) → AllByRecursion (Contains es) ds → AllByRecursion (λ e. Lawful vs (end_cut es limit e)) ds
+  pub each_lawful_end : (ds : List Weighted) → AllByRecursion (Contains es) ds → AllByRecursion (λ e. Lawful vs (end_cut es limit e)) ds
   each_lawful_end ds all = each (Contains es) (λ e. Lawful vs (end_cut es limit e)) end_lawful ds all
 
-  ends_lawful : Lawful vs (round (end_cut es limit) es)
+  pub ends_lawful : Lawful vs (round (end_cut es limit) es)
   ends_lawful = lawful_each vs (end_cut es limit) es (each_lawful_end es (members es))
 
   pub below_lawful : Lawful vs (below_steps vs es limit)

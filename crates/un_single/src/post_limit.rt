@@ -1,11 +1,14 @@
 //! What is posted of the cost.
 
 ghost use Rattle.std.specs.Prelude.{◌≡◌, ◌++◌, IfOk, OnOk};
+ghost use Rattle.un_kinds.specs.Constraints.{Below};
+ghost use Rattle.un_kinds.specs.Scopes.{Makes};
 ghost use Rattle.un_sites.specs.Postings.{ends_by, limit_of};
 
 use std::alloc::Global;
 use un_base::memory_error::NoMemory;
 use un_ir::extended::ExtBlock;
+use un_kinds::any::AnyProp;
 use un_kinds::make_prec::make_below;
 use un_kinds::props::Props;
 use un_lists::items::Items;
@@ -31,6 +34,15 @@ fn ends_of(
     Ok(ends)
 }
 
+/// The propagator by which the cost is less than a limit.
+pub fn limit_prop(alloc: Global, m: &Model, limit: u64) -> Result<AnyProp, NoMemory>
+    ensures { IfOk result (Makes (Below (ends_by m.now.ext.blocks m.now.blocks) limit)) }
+{
+    let ends = ends_of(alloc, &m.ext.blocks, &m.blocks)?;
+    let made = make_below(alloc, ends, limit)?;
+    Ok(made)
+}
+
 /// The cost is less than a limit, where there is one.
 pub fn post_limit(props: &mut Props, m: &Model, limit: Option<u64>) -> Result<(), NoMemory>
     ensures { OnOk result (props.new ≡ props.old ++ limit_of m.now limit) }
@@ -38,8 +50,7 @@ pub fn post_limit(props: &mut Props, m: &Model, limit: Option<u64>) -> Result<()
     match limit {
         None => Ok(()),
         Some(most) => {
-            let ends = ends_of(props.alloc(), &m.ext.blocks, &m.blocks)?;
-            let made = make_below(props.alloc(), ends, most)?;
+            let made = limit_prop(props.alloc(), m, most)?;
             props.push(made)
         }
     }

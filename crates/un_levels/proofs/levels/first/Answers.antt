@@ -2,7 +2,7 @@ use Rattle.std.proofs.Common.{sym, ap, subst}
 use Rattle.un_domains.specs.Sets.{Sets}
 use Rattle.un_tree.specs.Boxes.{reached}
 use Rattle.un_branching.specs.Searched.{IsLook}
-use Rattle.un_levels.proofs.LevelLemmas.{leveled_end, ready_kept, run_of, when_open}
+use Rattle.un_levels.proofs.LevelLemmas.{leveled_end, ready_kept, run_of}
 use Rattle.un_levels.proofs.levels.first.Goals as goal
 
 pub look_at-requires-clause-inside : goal.look_at-requires-clause-inside
@@ -24,8 +24,8 @@ returns-clause-ready g c =
     let R = g.R.Rounds in
     let p = c.args.rounds.now in
     let e = c.in_ok-look.ensures in
-    when_open c.in_ok-look.look _ (ready_kept (R.root p) (R.fix p) c.args.room.now.path.items _ (R.cuts c.args.room.now.stores) _
-    (R.ends c.args.room.now.stores) _ _ _ c.requires.ready e.path e.cut e.ended e.fit)
+    ready_kept (R.root p) (R.fix p) c.args.room.now.path.items _ (R.cuts c.args.room.now.stores) _
+    (R.ends c.args.room.now.stores) _ _ _ c.requires.ready e.path e.cut e.ended e.fit
 
 pub returns-clause-look : goal.returns-clause-look
 returns-clause-look g c =

@@ -10,7 +10,7 @@ returns-clause-exact c =
     let e = c.in_ok-posted.ensures in
     let r = c.requires in
     exact_props c.args.m.now c.args.limit _ c.in_ok-posted.posted.props.items r.model r.extended r.fit r.options e.sets
-    (e.asks ∙ c.in_ok-props.ensures)
+    (e.asks ∙ c.in_ok-listed.ensures.asks)
 
 pub returns-clause-live : goal.returns-clause-live
 returns-clause-live c =
@@ -23,37 +23,37 @@ returns-clause-reads c =
     let e = c.in_ok-posted.ensures in
     let r = c.requires in
     posted_reads c.args.m.now c.args.limit _ c.in_ok-posted.posted.props.items r.model r.extended r.fit r.options e.sets
-    (e.asks ∙ c.in_ok-props.ensures) e.tight
+    (e.asks ∙ c.in_ok-listed.ensures.asks) e.tight
 
 pub returns-clause-grounded : goal.returns-clause-grounded
 returns-clause-grounded c =
     let e = c.in_ok-posted.ensures in
     let r = c.requires in
     posted_grounded c.args.m.now c.args.limit _ c.in_ok-posted.posted.props.items r.model r.extended r.fit r.options e.sets
-    (e.asks ∙ c.in_ok-props.ensures) e.tight
+    (e.asks ∙ c.in_ok-listed.ensures.asks) e.tight
 
 pub returns-clause-spans : goal.returns-clause-spans
 returns-clause-spans c =
     let e = c.in_ok-posted.ensures in
     let r = c.requires in
     posted_spans c.args.m.now c.args.limit _ c.in_ok-posted.posted.props.items c.in_ok-posted.posted.horizon e.horizon
-    r.model r.extended r.fit r.options e.sets (e.asks ∙ c.in_ok-props.ensures) e.tight
+    r.model r.extended r.fit r.options e.sets (e.asks ∙ c.in_ok-listed.ensures.asks) e.tight
 
 pub returns-clause-fails : goal.returns-clause-fails
 returns-clause-fails c =
     let e = c.in_ok-posted.ensures in
     let r = c.requires in
     posted_fails c.args.m.now c.args.limit _ c.in_ok-posted.posted.props.items r.model r.extended r.fit r.options e.sets
-    (e.asks ∙ c.in_ok-props.ensures) e.tight
+    (e.asks ∙ c.in_ok-listed.ensures.asks) e.tight
 
 pub returns-clause-overfull : goal.returns-clause-overfull
 returns-clause-overfull c =
     let e = c.in_ok-posted.ensures in
     let r = c.requires in
     posted_overfull c.args.m.now c.args.limit _ c.in_ok-posted.posted.props.items r.model r.extended r.fit r.options e.sets
-    (e.asks ∙ c.in_ok-props.ensures) e.tight
+    (e.asks ∙ c.in_ok-listed.ensures.asks) e.tight
 
 pub returns-clause-fixed : goal.returns-clause-fixed
 returns-clause-fixed c box =
     let e = c.in_ok-posted.ensures in
-    fix_is c.in_ok-posted.posted.props.items _ (e.asks ∙ c.in_ok-props.ensures) e.tight box
+    fix_is c.in_ok-posted.posted.props.items _ (e.asks ∙ c.in_ok-listed.ensures.asks) e.tight box

@@ -1,0 +1,26 @@
+-- What posting says of its propagators.
+use Rattle.std.specs.Prelude.{ℕ, ◌≡◌, List, Option, All, map}
+use Rattle.un_domains.specs.Sets.{Sets}
+use Rattle.un_model.specs.declared.model.Model.{Model}
+use Rattle.un_prop.specs.Rounds.{fix_of}
+use Rattle.un_kinds.specs.AnyProps.{constraint_of, cut_of}
+use Rattle.un_kinds.specs.Scopes.{IsTight}
+use Rattle.un_kinds.specs.declared.any.AnyProp.{AnyProp}
+use Rattle.un_sites.specs.Befores.{all_postings_of}
+use Rattle.un_post.specs.Posts.{IsExact, ReadsFrom, IsGrounded, FailsWhereEmpty, fix_at}
+use Rattle.un_certificate.specs.Certificates.{root_of}
+
+-- propagators as they are posted for a model under a limit
+pub record ArePosted (m : Model) (limit : Option ℕ) (ps : List AnyProp) : Type 0 where
+  pub asks : map constraint_of ps ≡ all_postings_of m limit
+  pub tight : All IsTight ps
+  pub exact : IsExact m limit (root_of m) ps
+  pub reads : All (ReadsFrom (root_of m)) ps
+  pub grounded : All IsGrounded ps
+  pub fails : FailsWhereEmpty m limit (root_of m) ps
+  pub fixed : (box : Sets) → fix_of cut_of ps box ≡ fix_at m limit box
+
+-- there are such
+pub record IsPosted (m : Model) (limit : Option ℕ) : Type 0 where
+  pub props : List AnyProp
+  pub are : ArePosted m limit props
