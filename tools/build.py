@@ -9,6 +9,7 @@ import concurrent.futures
 import functools
 import os
 import shutil
+import signal
 import subprocess
 import sys
 import tempfile
@@ -70,50 +71,69 @@ def copy_of(room, number):
     return folder
 
 
-def prove(folder, name):
+def prove(folder, name, started):
     """Proves a library in a copy. Answers what rt printed where it is not proved, else nothing."""
-    ran = subprocess.run(["rt", "lib", "--jobs", "1"], cwd=f"{folder}/crates/{name}", stdin=subprocess.DEVNULL,
-                         stdout=subprocess.PIPE, stderr=subprocess.STDOUT, text=True, check=False)
-    return ran.stdout if ran.returncode else None
+    # (a session of its own, so that all that it starts can be ended with it)
+    with subprocess.Popen(["rt", "lib", "--jobs", "1"], cwd=f"{folder}/crates/{name}", stdin=subprocess.DEVNULL,
+                          stdout=subprocess.PIPE, stderr=subprocess.STDOUT, text=True, start_new_session=True) as running:
+        started.add(running)
+        printed = running.communicate()[0]
+        started.discard(running)
+    return printed if running.returncode else None
+
+
+def end_all(started):
+    """Ends what still runs of what was started."""
+    for running in list(started):
+        if running.poll() is None:
+            os.killpg(running.pid, signal.SIGKILL)
 
 
 def prove_below(crates, program, room):
     """Proves the libraries below a program, and answers whether all are proved."""
     wanted = crates.below(program)
     free = [copy_of(room, number) for number in range(os.cpu_count() or 1)]
-    done, running, start = set(), {}, time.time()
+    done, running, started, start = set(), {}, set(), time.time()
     with concurrent.futures.ThreadPoolExecutor(len(free)) as pool:
-        while len(done) < len(wanted):
-            begun = done | {name for name, _ in running.values()}
-            ready = sorted((it for it in wanted - begun if crates.are_done(it, done)), key=crates.chain, reverse=True)
-            for name in ready[: len(free)]:
-                folder = free.pop()
-                running[pool.submit(prove, folder, name)] = (name, folder)
-            for it in concurrent.futures.wait(running, return_when=concurrent.futures.FIRST_COMPLETED)[0]:
-                name, folder = running.pop(it)
-                free.append(folder)
-                if it.result() is not None:
-                    print(it.result(), file=sys.stderr)
-                    say(f"{name} was not proved")
-                    return False
-                done.add(name)
-                minutes, seconds = divmod(int(time.time() - start), 60)
-                say(f"{len(done)} of {len(wanted) + 1} crates proved, {minutes} min {seconds} s")
+        try:
+            while len(done) < len(wanted):
+                begun = done | {name for name, _ in running.values()}
+                ready = sorted((it for it in wanted - begun if crates.are_done(it, done)), key=crates.chain, reverse=True)
+                for name in ready[: len(free)]:
+                    folder = free.pop()
+                    running[pool.submit(prove, folder, name, started)] = (name, folder)
+                for it in concurrent.futures.wait(running, return_when=concurrent.futures.FIRST_COMPLETED)[0]:
+                    name, folder = running.pop(it)
+                    free.append(folder)
+                    if it.result() is not None:
+                        print(it.result(), file=sys.stderr)
+                        say(f"{name} was not proved")
+                        return False
+                    done.add(name)
+                    minutes, seconds = divmod(int(time.time() - start), 60)
+                    say(f"{len(done)} of {len(wanted) + 1} crates proved, {minutes} min {seconds} s")
+        finally:
+            end_all(started)
     return True
 
 
 def main():
     crates = Crates()
     program = sys.argv[1] if len(sys.argv) == 2 else ""
+    signal.signal(signal.SIGTERM, signal.default_int_handler)
     if not os.path.isfile(f"{TOP}/crates/{program}/src/main.rt"):
         sys.exit("usage: tools/build.py PROGRAM")
     room = tempfile.mkdtemp(prefix="unison-build-", dir=os.path.dirname(TOP))
     try:
+        say(f"proving {len(crates.below(program)) + 1} crates on {os.cpu_count()} processors: from nothing some 50 minutes on four")
         if not prove_below(crates, program, room):
             sys.exit(1)
         say(f"proving and linking {program}")
         subprocess.run(["rt", "run"], cwd=f"{TOP}/crates/{program}", stdin=subprocess.DEVNULL, stdout=subprocess.DEVNULL,
                        stderr=subprocess.DEVNULL, check=False)
+    except KeyboardInterrupt:
+        say(f"interrupted: {program} is not built")
+        sys.exit(130)
     finally:
         shutil.rmtree(room, ignore_errors=True)
     if not os.path.isfile(f"{TOP}/crates/{program}/out/{program}"):

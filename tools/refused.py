@@ -164,7 +164,7 @@ def tried(program, library, row):
 
 def main():
     rows = [it for it in ROWS if not sys.argv[1:] or set(sys.argv[1:]) & set(it[0].split())]
-    program = unproved.program_of("unison", fast=True)
+    program = unproved.program_of("unison")
     if program is None or not rows:
         sys.exit(__doc__.partition("\n")[0])
     with tempfile.TemporaryDirectory(prefix="unison-refused-") as folder:
