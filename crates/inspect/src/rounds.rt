@@ -122,6 +122,7 @@ fn put_lines_left(
         props,
         mut store,
         horizon,
+        ..
     } = posted;
     if !decide_all(&mut store, decisions) {
         return put_text(out, b"failed\n");

@@ -199,6 +199,7 @@ fn put_rounds(
         props,
         store,
         horizon,
+        ..
     } = posted(alloc, x.f, x.m)?;
     let _ = put_runs(rt, alloc, out, props, store, horizon, vars)?;
     Ok(())

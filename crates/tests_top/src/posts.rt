@@ -239,6 +239,7 @@ fn end_of(alloc: Global, posted: Posted) -> Result<Fix, NoMemory>
         props,
         mut store,
         horizon,
+        ..
     } = posted;
     end_on(alloc, props.as_slice(), &mut store, horizon)
 }

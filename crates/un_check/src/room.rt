@@ -217,6 +217,7 @@ pub(crate) fn first_room(alloc: Global, posted: Posted) -> Result<Room, NoMemory
         props,
         store,
         horizon,
+        ..
     } = posted;
     let engine = Engine::new(alloc, props, store, horizon)?;
     Ok(Room {

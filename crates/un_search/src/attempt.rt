@@ -106,6 +106,7 @@ pub fn attempt(alloc: Global, m: &Model, limit: Option<u64>, nodes: u32) -> Resu
         props,
         store,
         horizon,
+        ..
     } = posted;
     match Engine::new(alloc, props, store, horizon)? {
         None => Ok(Tried::Refuted(closed_leaf(alloc)?)),

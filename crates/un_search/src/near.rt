@@ -308,6 +308,7 @@ fn near(alloc: Global, m: &Model, best: &Best, left: u32) -> Result<Found, NoMem
         props,
         store,
         horizon,
+        ..
     } = post(alloc, m, Some(best.cost))?;
     match Engine::new(alloc, props, store, horizon)? {
         None => Ok(Found {

@@ -103,6 +103,7 @@ pub fn least_ends(alloc: Global, m: &Model) -> Result<Option<Vec<u32>>, NoMemory
         props,
         store,
         horizon,
+        ..
     } = post(alloc, m, None)?;
     match Engine::new(alloc, props, store, horizon)? {
         None => Ok(None),
