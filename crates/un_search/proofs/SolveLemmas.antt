@@ -20,8 +20,8 @@ use Rattle.un_tree.specs.declared.node.Node.TheVariants.{Branch, Closed, Open}
 use Rattle.un_certificate.proofs.Lows.{bound_below, refuted, standing}
 use Rattle.un_certificate.specs.Bounds.{IsBound, IsLowestUnder}
 use Rattle.un_certificate.specs.Certificates.{root_of}
-use Rattle.un_search.specs.Answers.{IsRefuted, IsCutOff}
-use Rattle.un_search.specs.Solved.{IsBest, IsCode, IsEnded, OnInfeasible}
+use Rattle.un_search.specs.Answers.{IsLeftOfRoot, IsRefuted, IsCutOff}
+use Rattle.un_search.specs.Solved.{IsBest, IsByRounds, IsCode, IsEnded, OnCode, OnInfeasible}
 use Rattle.un_search.specs.declared.best.Best.{Best}
 use Rattle.un_search.specs.declared.solve.Answer.{Answer}
 use Rattle.un_search.specs.declared.solve.Answer.TheVariants.{Code, Infeasible, Spent}
@@ -124,3 +124,23 @@ on_infeasible P Q so (Spent t) h = tt
 -- there is no solution where the tree without a limit has no open leaf
 pub none_left : (m : Model) (n : ℕ) (t : List Node) → IsModel m → IsRefuted m None n t → (x : Solution) → IsSolution m x → ⊥
 none_left m n t own h x is = refuted m None t own (standing m None t h.certificate) h.closed x.values (is, tt)
+
+-- what follows of the solution of code
+pub on_code : (P Q : Solution → Type 0) → ((s : Solution) → P s → Q s) → (a : Answer) → OnCode (λ s cost bound t. P s) a
+    → OnCode (λ s cost bound t. Q s) a
+on_code P Q so (Code s cost bound t) h = so s h
+on_code P Q so (Infeasible t) h = tt
+on_code P Q so (Spent t) h = tt
+
+-- ---- with one node or two
+
+-- what is found from a solution on that the rounds left is such a solution too
+pub rounds_from : (m : Model) (limit : Option ℕ) (start : Option Solution) (s t : Solution) → IsLeftOfRoot m limit s
+    → IsByRounds m (Some s) t → IsByRounds m start t
+rounds_from m limit start s t left (inl same) = (let e : s ≡ t = cc same in inr (limit, subst (IsLeftOfRoot m limit) e left))
+rounds_from m limit start s t left (inr by) = inr by
+
+-- nor is what is found from no solution on the start
+pub rounds_alone : (m : Model) (start : Option Solution) (s : Solution) → IsByRounds m None s → IsByRounds m start s
+rounds_alone m start s (inl same) = absurd (cc same)
+rounds_alone m start s (inr by) = inr by

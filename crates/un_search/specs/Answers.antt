@@ -49,9 +49,13 @@ pub record IsCutOff (m : Model) (limit : Option ℕ) (n : ℕ) (t : List Node) (
 abbrev pub AreEnough : Model → ℕ → Type 0
 AreEnough m n = 2 * volume (root_of m) + 1 ≤ n
 
+-- the rounds under a limit leave of the first box one assignment, and this is it
+abbrev pub IsLeftOfRoot : Model → Option ℕ → Solution → Type 0
+IsLeftOfRoot m limit s = MatchOption (fix_at m limit (root_of m)) ⊥ (IsSingle s.values)
+
 -- the answer follows from what the rounds leave of the first box alone
 abbrev pub IsByRoot : Model → Option ℕ → Tried → Type 0
-IsByRoot m limit (Found s) = MatchOption (fix_at m limit (root_of m)) ⊥ (IsSingle s.values)
+IsByRoot m limit (Found s) = IsLeftOfRoot m limit s
 IsByRoot m limit (Refuted t) = fix_at m limit (root_of m) ≡ None
 IsByRoot m limit (Cut t low) = IsOpenBox (fix_at m limit) (root_of m)
 

@@ -1,5 +1,5 @@
 -- What `solve` says of its answer.
-use Rattle.std.specs.Prelude.{ℕ, ◌≡◌, ◌≢◌, ◌≤◌, List, Option, Some, ⊤, All, Contains, length}
+use Rattle.std.specs.Prelude.{ℕ, ◌≡◌, ◌≢◌, ◌≤◌, ◌⊎◌, List, Option, Some, ⊤, All, Contains, length}
 use Rattle.un_model.specs.declared.model.Model.{Model}
 use Rattle.un_model.specs.declared.model.Solution.{Solution}
 use Rattle.un_model.specs.Cost.{cost_of}
@@ -10,6 +10,7 @@ use Rattle.un_tree.specs.declared.node.Node.TheVariants.{Open}
 use Rattle.un_tree.specs.Waits.{IsOdd, visits_of}
 use Rattle.un_certificate.specs.Bounds.{IsBound}
 use Rattle.un_certificate.specs.Certificates.{IsCertificate, root_of}
+use Rattle.un_search.specs.Answers.{IsLeftOfRoot}
 use Rattle.un_search.specs.declared.best.Best.{Best}
 use Rattle.un_search.specs.declared.solve.Answer.{Answer}
 use Rattle.un_search.specs.declared.solve.Answer.TheVariants.{Code, Infeasible, Spent}
@@ -41,6 +42,10 @@ pub record IsCode (m : Model) (n : ℕ) (s : Solution) (cost bound : ℕ) (t : L
 
 abbrev pub IsLast : Model → ℕ → Last → Type 0
 IsLast m n l = IsCode m n l.best.solution l.best.cost l.bound l.tree.nodes.items
+
+-- with one node or two a solution is the start, or what the rounds under some limit leave of the first box
+abbrev pub IsByRounds : Model → Option Solution → Solution → Type 0
+IsByRounds m start s = (start ≡ Some s) ⊎ ((limit : Option ℕ) × IsLeftOfRoot m limit s)
 
 -- what is so of a better solution, and where there is none
 abbrev pub OnBetter : (Best → Type 0) → Step → Type 0

@@ -1,6 +1,6 @@
 //! The best solution so far.
 
-ghost use Rattle.std.specs.Prelude.{◌≡◌, ◌≤◌, IfOk};
+ghost use Rattle.std.specs.Prelude.{◌≡◌, ◌<◌, ◌≤◌, IfOk};
 ghost use Rattle.un_ir.specs.Extended.{IsExtended};
 ghost use Rattle.un_isa.specs.Fit.{IsFit};
 ghost use Rattle.un_model.specs.Cost.{cost_of};
@@ -56,6 +56,7 @@ fn tightened(alloc: Global, m: &Model, solution: Solution, nodes: u32) -> Result
     ensures solution { IfOk result (λ s. IsSolution m.now s) }
     ensures tight { 3 ≤ nodes → IfOk result (λ s. HasNoMerge m.now s) }
     ensures no_dearer { IfOk result (λ s. cost_of m.now s ≤ cost_of m.now solution) }
+    ensures few { nodes < 3 → IfOk result (λ s. s ≡ solution) }
 {
     if nodes < BRANCH_NODES {
         return Ok(solution);
@@ -64,7 +65,7 @@ fn tightened(alloc: Global, m: &Model, solution: Solution, nodes: u32) -> Result
     Ok(tight)
 }
 
-/// A solution that was found as the best one, without merges where there are nodes for a branch.
+/// A solution that was found as the best one, without merges where there are nodes for a branch, as it was found where there are fewer.
 pub(crate) fn best_of(
     alloc: Global,
     m: &Model,
@@ -77,6 +78,7 @@ pub(crate) fn best_of(
     requires solution { IsSolution m.now solution }
     ensures best { IfOk result (IsBest m.now nodes) }
     ensures no_dearer { IfOk result (λ b. b.cost ≤ cost_of m.now solution) }
+    ensures few { nodes < 3 → IfOk result (λ b. b.solution ≡ solution) }
 {
     let tight = tightened(alloc, m, solution, nodes)?;
     Ok(priced(m, tight))

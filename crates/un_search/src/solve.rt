@@ -14,8 +14,8 @@ ghost use Rattle.un_certificate.specs.Certificates.{root_of};
 ghost use Rattle.un_merges.specs.Merges.{HasNoMerge};
 ghost use Rattle.un_tree.specs.Waits.{visits_of};
 ghost use Rattle.un_tree.specs.declared.node.Node.TheVariants.{Open};
-ghost use Rattle.un_search.specs.Answers.{AreEnough, IsRefuted};
-ghost use Rattle.un_search.specs.Solved.{IsBest, IsCode, IsLast, IsEnded, OnBetter, OnEnded, OnCode, OnInfeasible, OnSpent, OnOther};
+ghost use Rattle.un_search.specs.Answers.{AreEnough, IsLeftOfRoot, IsRefuted};
+ghost use Rattle.un_search.specs.Solved.{IsBest, IsByRounds, IsCode, IsLast, IsEnded, OnBetter, OnEnded, OnCode, OnInfeasible, OnSpent, OnOther};
 ghost use Rattle.un_search.specs.Solved.{HasNoOpenLeaf};
 
 use crate::attempt::{Tried, attempt};
@@ -89,6 +89,7 @@ fn try_better(alloc: Global, m: &Model, best: Best, nodes: u32) -> Result<Step, 
     ensures falls { IfOk result (OnBetter (λ b. b.cost < best.cost)) }
     ensures last { IfOk result (OnEnded (IsLast m.now nodes)) }
     ensures same { IfOk result (OnEnded (λ l. l.best ≡ best)) }
+    ensures few { nodes < 3 → IfOk result (OnBetter (λ b. IsLeftOfRoot m.now (Some best.cost) b.solution)) }
 {
     let limit = best.cost;
     match attempt(alloc, m, Some(limit), nodes)? {
@@ -115,6 +116,7 @@ fn improved(alloc: Global, m: &Model, start: Best, nodes: u32) -> Result<Last, N
     requires start { IsBest m.now nodes start }
     ensures last { IfOk result (IsLast m.now nodes) }
     ensures no_dearer { IfOk result (λ l. l.best.cost ≤ start.cost) }
+    ensures few { nodes < 3 → IfOk result (λ l. IsByRounds m.now (Some start.solution) l.best.solution) }
 {
     let mut best = start;
     loop {
@@ -151,6 +153,7 @@ fn from_best(alloc: Global, m: &Model, best: Best, nodes: u32) -> Result<Answer,
     ensures code { IfOk result (OnCode (IsCode m.now nodes)) }
     ensures no_dearer { IfOk result (OnCode (λ s cost bound t. cost ≤ best.cost)) }
     ensures found { IfOk result (OnOther ⊥) }
+    ensures few { nodes < 3 → IfOk result (OnCode (λ s cost bound t. IsByRounds m.now (Some best.solution) s)) }
 {
     let last = improved(alloc, m, best, nodes)?;
     Ok(code_of(last))
@@ -167,6 +170,7 @@ fn from_none(alloc: Global, m: &Model, nodes: u32) -> Result<Answer, NoMemory>
     ensures code { IfOk result (OnCode (IsCode m.now nodes)) }
     ensures infeasible { IfOk result (OnInfeasible (IsRefuted m.now None nodes)) }
     ensures spent { IfOk result (OnSpent (λ t. IsEnded m.now None nodes t × Contains t Open)) }
+    ensures few { nodes < 3 → IfOk result (OnCode (λ s cost bound t. IsByRounds m.now None s)) }
 {
     match attempt(alloc, m, None, nodes)? {
         Tried::Found(solution) => {
@@ -201,6 +205,7 @@ pub fn solve(
     ensures solution { IfOk result (OnCode (λ s cost bound t. IsSolution m.now s × (cost ≡ cost_of m.now s))) }
     ensures no_dearer { IfOk result (OnCode (λ s cost bound t. IfSome start (λ x. cost ≤ cost_of m.now x))) }
     ensures tight { 3 ≤ nodes → IfOk result (OnCode (λ s cost bound t. HasNoMerge m.now s)) }
+    ensures few { nodes < 3 → IfOk result (OnCode (λ s cost bound t. IsByRounds m.now start s)) }
 
     // The tree, and the bound that it shows.
     ensures tree { IfOk result (OnCode (λ s cost bound t. IsEnded m.now (Some cost) nodes t)) }

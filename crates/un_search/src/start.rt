@@ -1,6 +1,7 @@
 //! The solution from which a search starts.
 
-ghost use Rattle.std.specs.Prelude.{◌≡◌, ◌≤◌, IfOk, IfSome, IsSomeAnd};
+ghost use Rattle.std.specs.Prelude.{◌≡◌, ◌<◌, ◌≤◌, IfOk, IfSome, IsSomeAnd};
+ghost use Rattle.std.specs.Option.{option_map};
 ghost use Rattle.un_ir.specs.Extended.{IsExtended};
 ghost use Rattle.un_isa.specs.Fit.{IsFit};
 ghost use Rattle.un_domains.specs.Sets.{NoneEmpty};
@@ -9,6 +10,7 @@ ghost use Rattle.un_model.specs.Options.{AreOptions};
 ghost use Rattle.un_model.specs.Solutions.{IsSolution};
 ghost use Rattle.un_model.specs.Variables.{IsModel};
 ghost use Rattle.un_search.specs.Solved.{IsBest};
+ghost use Rattle.un_search.specs.declared.best.Best.{Best};
 
 use crate::best::{BRANCH_NODES, Best, best_of, price};
 use crate::lifts::lift_of;
@@ -163,6 +165,8 @@ fn cheaper(m: &Model, one: Solution, other: Solution) -> Solution
     requires other { IsSolution m.now other }
     ensures solution { IsSolution m.now result }
     ensures no_dearer { cost_of m.now result ≤ cost_of m.now one }
+    ensures cheapest { cost_of m.now result ≤ cost_of m.now other }
+    ensures ties { cost_of m.now one ≤ cost_of m.now other → result ≡ one }
 {
     if price(m, &other) < price(m, &one) {
         other
@@ -204,6 +208,7 @@ fn candidate(
     requires start { IfSome start (λ s. IsSolution m.now s) }
     ensures solution { IfOk result (λ found. IfSome found.solution (λ s. IsSolution m.now s)) }
     ensures no_dearer { IfOk result (λ found. IfSome start (λ x. IsSomeAnd found.solution (λ s. cost_of m.now s ≤ cost_of m.now x))) }
+    ensures few { nodes < 3 → IfOk result (λ found. found.solution ≡ start) }
 {
     if nodes < BRANCH_NODES {
         return Ok(Outlook {
@@ -227,6 +232,7 @@ fn improved(alloc: Global, m: &Model, best: Best, least: u64, nodes: u32) -> Res
     requires best { IsBest m.now nodes best }
     ensures best { IfOk result (IsBest m.now nodes) }
     ensures no_dearer { IfOk result (λ b. b.cost ≤ best.cost) }
+    ensures few { nodes < 3 → IfOk result (λ b. b ≡ best) }
 {
     if nodes < NEAR_NODES || best.cost <= least {
         return Ok(best);
@@ -234,7 +240,7 @@ fn improved(alloc: Global, m: &Model, best: Best, least: u64, nodes: u32) -> Res
     best_near(alloc, m, best, nodes, nodes / NODES_OF_DECISION)
 }
 
-/// The best solution before the first attempt, where there is one.
+/// The best solution before the first attempt, where there is one: the start itself, where there are no nodes for a branch.
 pub(crate) fn incumbent(
     alloc: Global,
     m: &Model,
@@ -248,6 +254,7 @@ pub(crate) fn incumbent(
     requires start { IfSome start (λ s. IsSolution m.now s) }
     ensures best { IfOk result (λ found. IfSome found (IsBest m.now nodes)) }
     ensures no_dearer { IfOk result (λ found. IfSome start (λ x. IsSomeAnd found (λ b. b.cost ≤ cost_of m.now x))) }
+    ensures few { nodes < 3 → IfOk result (λ found. option_map (λ (b : Best). b.solution) found ≡ start) }
 {
     let Outlook { solution, least } = candidate(alloc, m, start, nodes)?;
     match solution {
