@@ -80,6 +80,7 @@ fn order_lesson(alloc: Global, row: &Row<'_>, op: Op) -> Result<Lesson, NoMemory
     let name = Shown(source_name(op));
     let form = form_of(op);
     let wrong = format!(in alloc; "`{name}` has a result, which stands before `=`");
+    let count = words_of(alloc, form.as_bytes())?.len();
     let (Some(first), Some(third)) = (row.words().get(1), row.words().get(3)) else {
         return told(
             whole(row),
@@ -88,7 +89,7 @@ fn order_lesson(alloc: Global, row: &Row<'_>, op: Op) -> Result<Lesson, NoMemory
         );
     };
     let rest = Shown(row.bytes.get(third.column..).unwrap_or(&[]));
-    if matches!(first.form, Token::Named(_)) && row.words().len() == 6 {
+    if matches!(first.form, Token::Named(_)) && row.words().len() == count {
         let help = format!(in alloc; "did you mean `{first} = {name} {rest}`?");
         return told(at(row, first), wrong, help);
     }

@@ -142,28 +142,39 @@ fn unset_word(
     alloc: Global,
     rows: &[Row<'_>],
     row: &Row<'_>,
-) -> Result<Option<(usize, Name)>, NoMemory> {
+) -> Result<Option<(usize, (Name, Kind))>, NoMemory> {
     let mut last = None;
     for (place, word) in row.words().iter().enumerate() {
         if let Some(name) = name_in(word) {
             if is_unset(alloc, rows, row, &name)? {
-                last = Some((place, name.0));
+                last = Some((place, name));
             }
         }
     }
     Ok(last)
 }
 
-/// What is said of the use of a name.
-fn use_lesson(alloc: Global, row: &Row<'_>, place: usize, name: &Name) -> Result<Lesson, NoMemory> {
-    let name = as_shown(name);
-    let wrong = format!(in alloc;
-        "`{name}` is used here, and on a way to this line it is not assigned"
-    );
-    let help = format!(in alloc;
-        "assign it on each way from the entry, as by `%{name} = imm #0`, or make it a parameter"
-    );
-    told(at_word(row, place), wrong, help)
+/// What is said of the use of a name of this kind, which is the word at a place.
+fn use_lesson(
+    alloc: Global,
+    row: &Row<'_>,
+    place: usize,
+    name: &(Name, Kind),
+) -> Result<Lesson, NoMemory> {
+    let shown = as_shown(&name.0);
+    let place = at_word(row, place);
+    match name.1 {
+        Kind::General => {
+            let wrong = format!(in alloc; "`%{shown}` is used here, and on a way to this line it is not assigned");
+            let help = format!(in alloc; "assign it on each way from the entry, as by `%{shown} = imm #0`, or make it a parameter");
+            told(place, wrong, help)
+        }
+        Kind::Pred => {
+            let wrong = format!(in alloc; "`${shown}` is used here, and on a way to this line it is not assigned");
+            let help = format!(in alloc; "assign it on each way from the entry by a comparison, as `${shown} = cmpgti %a, #0`");
+            told(place, wrong, help)
+        }
+    }
 }
 
 /// What is said of a name that may be used before it is assigned: of the first line with such a use.
