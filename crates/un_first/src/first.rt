@@ -14,6 +14,7 @@ use un_blocks::groups::facts;
 use un_isa::reg::GENERALS;
 use un_lists::items::Items;
 use un_model::model::{Model, Solution};
+use un_trial::sets::EMPTY;
 use un_violations::violations::violations;
 
 /// The values as a solution, where they are one: where no clause is broken.
@@ -34,9 +35,6 @@ pub fn judged(alloc: Global, m: &Model, values: Vec<u32>) -> Result<Option<Solut
         Ok(None)
     }
 }
-
-/// Searches under fewer registers end where so many in turn found nothing cheaper.
-const IDLE: u32 = 4;
 
 /// A search under fewer registers has so many trials at most.
 const FEWER_TRIALS: u64 = 1_000;
@@ -78,34 +76,39 @@ fn improve(
     best: &mut Found,
 ) -> Result<(), AllocError> {
     let least = least_cost(facts);
-    let mut idle = 0;
-    for _ in 0..GENERALS {
-        if best.cycles <= least || idle >= IDLE {
+    for _ in 1..GENERALS {
+        facts.machine.assignable.drop_greatest();
+        if best.cycles <= least || facts.machine.assignable == EMPTY {
             break;
         }
-        facts.machine.assignable.drop_greatest();
-        idle += 1;
         if let Some(found) = searched(alloc, facts, budget)?
             && found.cycles < best.cycles
         {
             *best = found;
-            idle = 0;
         }
     }
     Ok(())
 }
 
-/// The cheapest values that searches find; the first has all registers that may be assigned and so many trials.
-fn cheapest(alloc: Global, facts: &mut Facts, budget: u64) -> Result<Option<Found>, AllocError> {
+/// The cheapest values that searches find, of which the first has so many trials and the others, where options limit the registers, fewer
+/// registers and trials.
+fn cheapest(
+    alloc: Global,
+    facts: &mut Facts,
+    is_limited: bool,
+    budget: u64,
+) -> Result<Option<Found>, AllocError> {
     let Some(mut best) = searched(alloc, facts, budget)? else {
         return Ok(None);
     };
-    improve(alloc, facts, budget.min(FEWER_TRIALS), &mut best)?;
+    if is_limited {
+        improve(alloc, facts, budget.min(FEWER_TRIALS), &mut best)?;
+    }
     Ok(Some(best))
 }
 
-/// The values that a search with at most `budget` trials of blocks makes, or one of those that follow under fewer registers; None where no
-/// start assignment leads to any. Nothing is promised of them: `first` judges them.
+/// The values that a search with at most `budget` trials of blocks makes, or one of those that follow under fewer registers where options
+/// limit them; None where no start assignment leads to any. Nothing is promised of them: `first` judges them.
 ///
 /// # Errors
 /// `NoMemory` where there is no memory for the plans.
@@ -116,13 +119,14 @@ pub fn candidate(
     budget: u32,
 ) -> Result<Option<Vec<u32>>, NoMemory> {
     let mut facts = facts(alloc, m, least_ends)?;
-    let found = cheapest(alloc, &mut facts, u64::from(budget))?;
+    let is_limited = m.options.regs.is_some();
+    let found = cheapest(alloc, &mut facts, is_limited, u64::from(budget))?;
     Ok(found.map(|best| best.values))
 }
 
-/// A solution by at most `budget` trials of blocks, and more of them under fewer registers where it costs more than the least. It
-/// follows from the model, the bounds and the budget alone; None where none was found. `least_ends` has a lower bound of each block's
-/// end: a block that has reached it gets no more trials. A wrong one makes the answer worse, and not wrong.
+/// A solution by at most `budget` trials of blocks, and, where options limit the registers and it costs more than the least, by more of
+/// them under fewer registers. It follows from the model, the bounds and the budget alone; None where none was found. `least_ends` has a
+/// lower bound of each block's end: a block that has reached it gets no more trials. A wrong one makes the answer worse, and not wrong.
 ///
 /// # Errors
 /// `NoMemory` where there is no memory for the plans.
