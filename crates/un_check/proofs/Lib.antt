@@ -10,6 +10,7 @@ pub mod ReportLemmas
 pub mod RoomLemmas
 pub mod SearchLemmas
 pub mod SoundBounds
+pub mod SoundCodes
 pub mod TreeLemmas
 pub mod VerdictLemmas
 pub mod WalkLemmas

@@ -6,7 +6,7 @@ ghost use Rattle.un_outside.specs.declared.status.NoCause.{NoCause};
 ghost use Rattle.un_problem.specs.Problems.{IsProblemOf};
 ghost use Rattle.un_certificate.specs.Certificates.{IsCertificate};
 ghost use Rattle.un_check.specs.Causes.{HasCause, IsTold, claim_of, limit_of};
-ghost use Rattle.un_check.specs.Laws.{BoundsAll, IsAccepting};
+ghost use Rattle.un_check.specs.Laws.{BoundsAll, HasCodeFor, IsAccepting};
 ghost use Rattle.un_check.specs.Sound.{IsSoundFor};
 ghost use Rattle.un_check.specs.Verdicts.{IsVerdict};
 ghost use Rattle.un_check.specs.declared.verdict.TreeVerdict.{TreeVerdict};
@@ -21,6 +21,17 @@ pub fn sound_bound(f: &Function, m: &Model, r: &Report)
     requires problem { IsProblemOf f.now m.now }
     requires sound { IsSoundFor m.now f.now r.now }
     ensures { BoundsAll m.now r.now.answer }
+{
+    let _ = f;
+    let _ = m;
+    let _ = r;
+}
+
+/// The code of a sound report does what the function does, and its packets, as often as they run, are its cost.
+pub fn sound_code(f: &Function, m: &Model, r: &Report)
+    requires problem { IsProblemOf f.now m.now }
+    requires sound { IsSoundFor m.now f.now r.now }
+    ensures { HasCodeFor f.now m.now r.now.answer }
 {
     let _ = f;
     let _ = m;

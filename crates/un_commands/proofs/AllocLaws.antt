@@ -9,7 +9,8 @@ use Rattle.std.proofs.lemmas.List.Elements.{All-nil, All-push}
 use Rattle.std.proofs.lemmas.Option.{slice_get_within, slice_get_past, gets}
 use Rattle.std.proofs.Math.Seq.{take-append_seam}
 use Rattle.un_commands.specs.declared.command.SearchOptions.{SearchOptions}
-use Rattle.un_commands.specs.declared.command.Command.TheVariants.{Alloc}
+use Rattle.un_commands.specs.declared.command.Command.TheVariants.{Reads}
+use Rattle.un_commands.specs.declared.command.ReadingCommand.TheVariants.{Alloc}
 use Rattle.un_commands.specs.declared.setting.Setting.{Setting}
 use Rattle.un_commands.specs.declared.setting.Given.{Given}
 use Rattle.un_commands.specs.Alloc.{IsAlloc}
@@ -166,7 +167,7 @@ number_there words place given h t ts = ap (λ (ws : List (List ℕ)). slice_get
 -- no option that is not given yet stands at the place
 pub bad_flag : (words : List (List ℕ)) (place : ℕ) (given : Given) (flag : List ℕ) → StandsAt words 0 (codes "alloc") → SoFar words place given
     → StandsAt words place flag → NoFlagAt words place given → IsBadWord words place
-bad_flag words place given flag first h stands none = bad_word words place (Alloc (over_defaults given)) (line_of h.settings)
+bad_flag words place given flag first h stands none = bad_word words place (Reads (Alloc (over_defaults given))) (line_of h.settings)
     (so_far words place given h)
     (h.begins ∙ sym (take_all place (line_of h.settings) (let long = place_is words place given h in omega arith)))
     (λ other others is alike. let opened = opens_alloc others other is (sym (alike 0 (omega arith)) ∙ first) in
@@ -186,7 +187,7 @@ same_flag words place v w a b = cc
 -- an option stands there, and no value of it next
 pub bad_value : (words : List (List ℕ)) (place : ℕ) (given : Given) → StandsAt words 0 (codes "alloc") → SoFar words place given
     → NoValueAt words place given → IsBadWord words (place + 1)
-bad_value words place given first h bad = bad_word words (place + 1) (Alloc (over_defaults (with_setting given bad.some)))
+bad_value words place given first h bad = bad_word words (place + 1) (Reads (Alloc (over_defaults (with_setting given bad.some))))
     (line_of (h.settings ++ bad.some ∷ []))
     (record {
       settings = h.settings ++ bad.some ∷ [];

@@ -11,7 +11,9 @@ use Rattle.un_model.specs.Options.{IsCountOfRegisters}
 use Rattle.un_commands.specs.declared.command.SearchOptions.{SearchOptions}
 use Rattle.un_commands.specs.declared.command.TheConstants.{DEFAULT_NODES}
 use Rattle.un_commands.specs.declared.command.Command.{Command}
-use Rattle.un_commands.specs.declared.command.Command.TheVariants.{Alloc, Run, RunCode, Check, Generate, GenerateAlloc}
+use Rattle.un_commands.specs.declared.command.Command.TheVariants.{Reads, Makes}
+use Rattle.un_commands.specs.declared.command.ReadingCommand.TheVariants.{Alloc, Run, RunCode, Check}
+use Rattle.un_commands.specs.declared.command.MakingCommand.TheVariants.{Generate, GenerateAlloc}
 use Rattle.un_commands.specs.declared.setting.Setting.{Setting}
 use Rattle.un_commands.specs.declared.setting.Setting.TheVariants.{Nodes, Regs, Slots}
 use Rattle.un_commands.specs.declared.setting.Given.{Given}
@@ -73,12 +75,12 @@ settings_ranged ss given ranged said = record {
 
 -- the numbers of a command are in their ranges
 pub is_ranged : (words : List (List ℕ)) (command : Command) → IsCommand words command → IsRanged command
-is_ranged words (Alloc options) h = subst AreSearchOptions (sym h.chosen) (settings_ranged h.settings h.given h.ranged h.said)
-is_ranged words Run h = tt
-is_ranged words RunCode h = tt
-is_ranged words Check h = tt
-is_ranged words (Generate seed size) h = (h.seed_fits, h.size_in)
-is_ranged words (GenerateAlloc seed size nodes) h = (h.seed_fits, h.size_in, h.nodes_in)
+is_ranged words (Reads (Alloc options)) h = subst AreSearchOptions (sym h.chosen) (settings_ranged h.settings h.given h.ranged h.said)
+is_ranged words (Reads Run) h = tt
+is_ranged words (Reads RunCode) h = tt
+is_ranged words (Reads Check) h = tt
+is_ranged words (Makes (Generate seed size)) h = (h.seed_fits, h.size_in)
+is_ranged words (Makes (GenerateAlloc seed size nodes)) h = (h.seed_fits, h.size_in, h.nodes_in)
 
 none_more : (more : List Setting) → length more ≡ 0 → more ≡ []
 none_more [] h = refl
@@ -117,21 +119,21 @@ one_run words a b = some_or_none words 1 (codes "--code") (read_at words _ 1 b) 
 
 -- words are those of one command at most
 pub one_command : (words : List (List ℕ)) (a b : Command) → IsCommand words a → IsCommand words b → a ≡ b
-one_command words (Alloc options) b h k = let opened = opens_alloc words b k (read_at words _ 0 h.spelled) in
-    ap Alloc (one_alloc words options opened.0 h opened.2) ∙ sym opened.1
-one_command words Run b h k = elim (opens_run words b k (read_at words _ 0 h)) [
+one_command words (Reads (Alloc options)) b h k = let opened = opens_alloc words b k (read_at words _ 0 h.spelled) in
+    ap (λ (o : SearchOptions). Reads (Alloc o)) (one_alloc words options opened.0 h opened.2) ∙ sym opened.1
+one_command words (Reads Run) b h k = elim (opens_run words b k (read_at words _ 0 h)) [
   | inl plain_run ↦ sym plain_run.0
   | inr with_code ↦ absurd (one_run words h with_code.1)
 ]
-one_command words RunCode b h k = elim (opens_run words b k (read_at words _ 0 h)) [
+one_command words (Reads RunCode) b h k = elim (opens_run words b k (read_at words _ 0 h)) [
   | inl plain_run ↦ absurd (one_run words plain_run.1 h)
   | inr with_code ↦ sym with_code.0
 ]
-one_command words Check b h k = sym (opens_check words b k (read_at words _ 0 h)).0
-one_command words (Generate seed size) b h k = one_gen words (Generate seed size) b
-    (opens_gen words (Generate seed size) h (read_at words _ 0 h.spelled)) (opens_gen words b k (read_at words _ 0 h.spelled))
-one_command words (GenerateAlloc seed size nodes) b h k = one_gen words (GenerateAlloc seed size nodes) b
-    (opens_gen words (GenerateAlloc seed size nodes) h (read_at words _ 0 h.spelled)) (opens_gen words b k (read_at words _ 0 h.spelled))
+one_command words (Reads Check) b h k = sym (opens_check words b k (read_at words _ 0 h)).0
+one_command words (Makes (Generate seed size)) b h k = one_gen words (Makes (Generate seed size)) b
+    (opens_gen words (Makes (Generate seed size)) h (read_at words _ 0 h.spelled)) (opens_gen words b k (read_at words _ 0 h.spelled))
+one_command words (Makes (GenerateAlloc seed size nodes)) b h k = one_gen words (Makes (GenerateAlloc seed size nodes)) b
+    (opens_gen words (Makes (GenerateAlloc seed size nodes)) h (read_at words _ 0 h.spelled)) (opens_gen words b k (read_at words _ 0 h.spelled))
 
 -- settings for all options
 abbrev all_settings : ℕ → Option ℕ → ℕ → List Setting
@@ -165,12 +167,12 @@ can_be_asked options h = record {
 
 -- each command whose numbers are in their ranges has words
 pub words_for : (command : Command) → IsRanged command → (words : List (List ℕ)) × IsCommand words command
-words_for (Alloc options) h = (line_of (all_settings options.nodes options.regs options.slots), can_be_asked options h)
-words_for Run h = (codes "run" ∷ [], refl)
-words_for RunCode h = (codes "run" ∷ codes "--code" ∷ [], refl)
-words_for Check h = (codes "check" ∷ [], refl)
-words_for (Generate seed size) h = (codes "gen" ∷ decimal seed ∷ decimal size ∷ [], plain seed size h.0 h.1)
-words_for (GenerateAlloc seed size nodes) h = (
+words_for (Reads (Alloc options)) h = (line_of (all_settings options.nodes options.regs options.slots), can_be_asked options h)
+words_for (Reads Run) h = (codes "run" ∷ [], refl)
+words_for (Reads RunCode) h = (codes "run" ∷ codes "--code" ∷ [], refl)
+words_for (Reads Check) h = (codes "check" ∷ [], refl)
+words_for (Makes (Generate seed size)) h = (codes "gen" ∷ decimal seed ∷ decimal size ∷ [], plain seed size h.0 h.1)
+words_for (Makes (GenerateAlloc seed size nodes)) h = (
   codes "gen" ∷ decimal seed ∷ decimal size ∷ codes "--nodes" ∷ decimal nodes ∷ [],
   costed seed size nodes h.0 h.1 h.2,
 )
@@ -178,7 +180,7 @@ words_for (GenerateAlloc seed size nodes) h = (
 -- no command begins with another first word
 pub bad_first : (words : List (List ℕ)) → ¬ StandsAt words 0 (codes "alloc") → ¬ StandsAt words 0 (codes "run")
     → ¬ StandsAt words 0 (codes "check") → ¬ StandsAt words 0 (codes "gen") → IsBadWord words 0
-bad_first words alloc run check gen = bad_word words 0 Run (codes "run" ∷ []) refl refl
+bad_first words alloc run check gen = bad_word words 0 (Reads Run) (codes "run" ∷ []) refl refl
     (λ other others is alike. elim (first_words others other is) [
       | inl e ↦ alloc (alike 0 (omega arith) ∙ e)
       | inr (inl e) ↦ run (alike 0 (omega arith) ∙ e)

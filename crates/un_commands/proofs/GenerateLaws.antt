@@ -6,7 +6,8 @@ use Rattle.std.proofs.lemmas.List.{take_all}
 use Rattle.std.proofs.lemmas.Grind.{common_steps}
 use Rattle.std.proofs.lemmas.Option.{slice_get_within, gets}
 use Rattle.un_commands.specs.declared.command.Command.{Command}
-use Rattle.un_commands.specs.declared.command.Command.TheVariants.{Generate, GenerateAlloc}
+use Rattle.un_commands.specs.declared.command.Command.TheVariants.{Makes}
+use Rattle.un_commands.specs.declared.command.MakingCommand.TheVariants.{Generate, GenerateAlloc}
 use Rattle.un_commands.specs.declared.command.TheConstants.{MOST_SIZE, MOST_NODES}
 use Rattle.un_commands.specs.Commands.{IsBadWord}
 use Rattle.un_commands.specs.Generate.{IsSize, IsGenerate, IsGenerateAlloc, AsksFor}
@@ -66,25 +67,25 @@ costed seed size nodes fits size_in in_range = record { seed_fits = fits; size_i
 -- no seed
 pub bad_seed : (words : List (List ℕ)) → StandsAt words 0 (codes "gen") → ((n : ℕ) → n < 2 ^ 64 → ¬ StandsAt words 1 (decimal n))
     → IsBadWord words 1
-bad_seed words first none = bad_word words 1 (Generate 0 1) _ (plain 0 1 (omega arith) least_size) (take_push 0 words (codes "gen") first)
+bad_seed words first none = bad_word words 1 (Makes (Generate 0 1)) _ (plain 0 1 (omega arith) least_size) (take_push 0 words (codes "gen") first)
     (λ other others is alike. let gen = opens_gen others other is (sym (alike 0 (omega arith)) ∙ first) in
     none gen.seed gen.seed_fits (alike 1 (omega arith) ∙ gen.seed_at))
 
 -- no size
 pub bad_size : (words : List (List ℕ)) (seed : ℕ) → StandsAt words 0 (codes "gen") → seed < 2 ^ 64 → StandsAt words 1 (decimal seed)
     → NoNumberAt words 2 1 MOST_SIZE → IsBadWord words 2
-bad_size words seed first fits second none = bad_word words 2 (Generate seed 1) _ (plain seed 1 fits least_size)
+bad_size words seed first fits second none = bad_word words 2 (Makes (Generate seed 1)) _ (plain seed 1 fits least_size)
     (begins_two words (codes "gen") (decimal seed) first second)
     (λ other others is alike. let gen = opens_gen others other is (sym (alike 0 (omega arith)) ∙ first) in
     none gen.size gen.size_in.0 gen.size_in.1 (alike 2 (omega arith) ∙ gen.size_at))
 
-is_there : (words : List (List ℕ)) (place : ℕ) → place < length words → slice_get words place ≡ None → ⊥
+pub is_there : (words : List (List ℕ)) (place : ℕ) → place < length words → slice_get words place ≡ None → ⊥
 is_there words place within none = grind (arith, common_steps, gets)
 
 -- another word than the flag behind the size
 pub bad_flag : (words : List (List ℕ)) (seed size : ℕ) → AsksFor words seed size → length words ≢ 3
     → ¬ StandsAt words 3 (codes "--nodes") → IsBadWord words 3
-bad_flag words seed size h long none = bad_word words 3 (Generate seed size) _ (plain seed size h.seed_fits h.size_in)
+bad_flag words seed size h long none = bad_word words 3 (Makes (Generate seed size)) _ (plain seed size h.seed_fits h.size_in)
     (begins_three words seed size h)
     (λ other others is alike. by others other (alike 3 (omega arith)) (opens_gen others other is (sym (alike 0 (omega arith)) ∙ h.gen)))
   where
@@ -103,7 +104,7 @@ bad_flag words seed size h long none = bad_word words 3 (Generate seed size) _ (
 -- no number of nodes
 pub bad_nodes : (words : List (List ℕ)) (seed size : ℕ) → AsksFor words seed size → StandsAt words 3 (codes "--nodes")
     → NoNumberAt words 4 1 MOST_NODES → IsBadWord words 4
-bad_nodes words seed size h flag none = bad_word words 4 (GenerateAlloc seed size 1) _
+bad_nodes words seed size h flag none = bad_word words 4 (Makes (GenerateAlloc seed size 1)) _
     (costed seed size 1 h.seed_fits h.size_in least_nodes)
     (begins_four words seed size h flag)
     (λ other others is alike. by others other (alike 3 (omega arith)) (alike 4 (omega arith))
@@ -119,7 +120,7 @@ bad_nodes words seed size h flag none = bad_word words 4 (GenerateAlloc seed siz
 -- a word more
 pub bad_end : (words : List (List ℕ)) (seed size nodes : ℕ) → AsksFor words seed size → StandsAt words 3 (codes "--nodes")
     → StandsAt words 4 (decimal nodes) → IsCountOfNodes nodes → 5 < length words → IsBadWord words 5
-bad_end words seed size nodes h flag number in_range long = bad_word words 5 (GenerateAlloc seed size nodes) _
+bad_end words seed size nodes h flag number in_range long = bad_word words 5 (Makes (GenerateAlloc seed size nodes)) _
     (costed seed size nodes h.seed_fits h.size_in in_range)
     (begins_five words seed size nodes h flag number)
     (λ other others is alike. by others other (alike 3 (omega arith)) (alike 5 (omega arith))

@@ -1,5 +1,6 @@
 pub mod AllocLaws
 pub mod CommandLaws
+pub mod EndLaws
 pub mod Firsts
 pub mod GenerateLaws
 pub mod Openers

@@ -4,7 +4,9 @@ use Rattle.std.specs.Fmt.{decimal}
 use Rattle.std.specs.List.{slice_get}
 use Rattle.un_commands.specs.declared.command.SearchOptions.{SearchOptions}
 use Rattle.un_commands.specs.declared.command.Command.{Command}
-use Rattle.un_commands.specs.declared.command.Command.TheVariants.{Alloc, Run, RunCode, Check, Generate, GenerateAlloc}
+use Rattle.un_commands.specs.declared.command.Command.TheVariants.{Reads, Makes}
+use Rattle.un_commands.specs.declared.command.ReadingCommand.TheVariants.{Alloc, Run, RunCode, Check}
+use Rattle.un_commands.specs.declared.command.MakingCommand.TheVariants.{Generate, GenerateAlloc}
 use Rattle.un_commands.specs.Alloc.{IsAlloc}
 use Rattle.un_commands.specs.Commands.{IsCommand}
 use Rattle.un_commands.specs.Generate.{IsSize}
@@ -13,36 +15,36 @@ use Rattle.un_commands.specs.Settings.{IsCountOfNodes}
 use Rattle.un_commands.proofs.Texts.{other_first}
 
 pub opens_alloc : (words : List (List ℕ)) (command : Command) → IsCommand words command → slice_get words 0 ≡ Some (codes "alloc")
-    → (options : SearchOptions) × (command ≡ Alloc options) × IsAlloc words options
-opens_alloc words (Alloc options) h first = (options, refl, h)
-opens_alloc words Run h first = absurd (other_first 114 97 _ _ _ words (λ e. omega arith) h first)
-opens_alloc words RunCode h first = absurd (other_first 114 97 _ _ _ words (λ e. omega arith) h first)
-opens_alloc words Check h first = absurd (other_first 99 97 _ _ _ words (λ e. omega arith) h first)
-opens_alloc words (Generate seed size) h first = absurd (other_first 103 97 _ _ _ words (λ e. omega arith) h.spelled first)
-opens_alloc words (GenerateAlloc seed size nodes) h first = absurd (other_first 103 97 _ _ _ words (λ e. omega arith) h.spelled first)
+    → (options : SearchOptions) × (command ≡ Reads (Alloc options)) × IsAlloc words options
+opens_alloc words (Reads (Alloc options)) h first = (options, refl, h)
+opens_alloc words (Reads Run) h first = absurd (other_first 114 97 _ _ _ words (λ e. omega arith) h first)
+opens_alloc words (Reads RunCode) h first = absurd (other_first 114 97 _ _ _ words (λ e. omega arith) h first)
+opens_alloc words (Reads Check) h first = absurd (other_first 99 97 _ _ _ words (λ e. omega arith) h first)
+opens_alloc words (Makes (Generate seed size)) h first = absurd (other_first 103 97 _ _ _ words (λ e. omega arith) h.spelled first)
+opens_alloc words (Makes (GenerateAlloc seed size nodes)) h first = absurd (other_first 103 97 _ _ _ words (λ e. omega arith) h.spelled first)
 
 pub opens_run : (words : List (List ℕ)) (command : Command) → IsCommand words command → slice_get words 0 ≡ Some (codes "run")
-    → ((command ≡ Run) × (words ≡ codes "run" ∷ [])) ⊎ ((command ≡ RunCode) × (words ≡ codes "run" ∷ codes "--code" ∷ []))
-opens_run words (Alloc options) h first = absurd (other_first 97 114 _ _ _ words (λ e. omega arith) h.spelled first)
-opens_run words Run h first = inl (refl, h)
-opens_run words RunCode h first = inr (refl, h)
-opens_run words Check h first = absurd (other_first 99 114 _ _ _ words (λ e. omega arith) h first)
-opens_run words (Generate seed size) h first = absurd (other_first 103 114 _ _ _ words (λ e. omega arith) h.spelled first)
-opens_run words (GenerateAlloc seed size nodes) h first = absurd (other_first 103 114 _ _ _ words (λ e. omega arith) h.spelled first)
+    → ((command ≡ Reads Run) × (words ≡ codes "run" ∷ [])) ⊎ ((command ≡ Reads RunCode) × (words ≡ codes "run" ∷ codes "--code" ∷ []))
+opens_run words (Reads (Alloc options)) h first = absurd (other_first 97 114 _ _ _ words (λ e. omega arith) h.spelled first)
+opens_run words (Reads Run) h first = inl (refl, h)
+opens_run words (Reads RunCode) h first = inr (refl, h)
+opens_run words (Reads Check) h first = absurd (other_first 99 114 _ _ _ words (λ e. omega arith) h first)
+opens_run words (Makes (Generate seed size)) h first = absurd (other_first 103 114 _ _ _ words (λ e. omega arith) h.spelled first)
+opens_run words (Makes (GenerateAlloc seed size nodes)) h first = absurd (other_first 103 114 _ _ _ words (λ e. omega arith) h.spelled first)
 
 pub opens_check : (words : List (List ℕ)) (command : Command) → IsCommand words command → slice_get words 0 ≡ Some (codes "check")
-    → (command ≡ Check) × (words ≡ codes "check" ∷ [])
-opens_check words (Alloc options) h first = absurd (other_first 97 99 _ _ _ words (λ e. omega arith) h.spelled first)
-opens_check words Run h first = absurd (other_first 114 99 _ _ _ words (λ e. omega arith) h first)
-opens_check words RunCode h first = absurd (other_first 114 99 _ _ _ words (λ e. omega arith) h first)
-opens_check words Check h first = (refl, h)
-opens_check words (Generate seed size) h first = absurd (other_first 103 99 _ _ _ words (λ e. omega arith) h.spelled first)
-opens_check words (GenerateAlloc seed size nodes) h first = absurd (other_first 103 99 _ _ _ words (λ e. omega arith) h.spelled first)
+    → (command ≡ Reads Check) × (words ≡ codes "check" ∷ [])
+opens_check words (Reads (Alloc options)) h first = absurd (other_first 97 99 _ _ _ words (λ e. omega arith) h.spelled first)
+opens_check words (Reads Run) h first = absurd (other_first 114 99 _ _ _ words (λ e. omega arith) h first)
+opens_check words (Reads RunCode) h first = absurd (other_first 114 99 _ _ _ words (λ e. omega arith) h first)
+opens_check words (Reads Check) h first = (refl, h)
+opens_check words (Makes (Generate seed size)) h first = absurd (other_first 103 99 _ _ _ words (λ e. omega arith) h.spelled first)
+opens_check words (Makes (GenerateAlloc seed size nodes)) h first = absurd (other_first 103 99 _ _ _ words (λ e. omega arith) h.spelled first)
 
 -- what stands behind a size: nothing, or a number of nodes
 pub data IsTail (words : List (List ℕ)) (command : Command) (seed size : ℕ) : Type 0 where
-  ends : command ≡ Generate seed size → slice_get words 3 ≡ None → IsTail words command seed size
-  goes : (n : ℕ) → command ≡ GenerateAlloc seed size n → slice_get words 3 ≡ Some (codes "--nodes") → IsCountOfNodes n
+  ends : command ≡ Makes (Generate seed size) → slice_get words 3 ≡ None → IsTail words command seed size
+  goes : (n : ℕ) → command ≡ Makes (GenerateAlloc seed size n) → slice_get words 3 ≡ Some (codes "--nodes") → IsCountOfNodes n
       → slice_get words 4 ≡ Some (decimal n) → slice_get words 5 ≡ None → IsTail words command seed size
 
 -- the words of a command that begins with `gen`
@@ -60,11 +62,11 @@ read_at words more place e = ap (λ (ws : List (List ℕ)). slice_get ws place) 
 
 pub opens_gen : (words : List (List ℕ)) (command : Command) → IsCommand words command → slice_get words 0 ≡ Some (codes "gen")
     → IsGen words command
-opens_gen words (Alloc options) h first = absurd (other_first 97 103 _ _ _ words (λ e. omega arith) h.spelled first)
-opens_gen words Run h first = absurd (other_first 114 103 _ _ _ words (λ e. omega arith) h first)
-opens_gen words RunCode h first = absurd (other_first 114 103 _ _ _ words (λ e. omega arith) h first)
-opens_gen words Check h first = absurd (other_first 99 103 _ _ _ words (λ e. omega arith) h first)
-opens_gen words (Generate seed size) h first = record {
+opens_gen words (Reads (Alloc options)) h first = absurd (other_first 97 103 _ _ _ words (λ e. omega arith) h.spelled first)
+opens_gen words (Reads Run) h first = absurd (other_first 114 103 _ _ _ words (λ e. omega arith) h first)
+opens_gen words (Reads RunCode) h first = absurd (other_first 114 103 _ _ _ words (λ e. omega arith) h first)
+opens_gen words (Reads Check) h first = absurd (other_first 99 103 _ _ _ words (λ e. omega arith) h first)
+opens_gen words (Makes (Generate seed size)) h first = record {
   seed = seed;
   size = size;
   seed_fits = h.seed_fits;
@@ -73,7 +75,7 @@ opens_gen words (Generate seed size) h first = record {
   size_at = read_at words _ 2 h.spelled;
   tail = ends refl (read_at words _ 3 h.spelled);
 }
-opens_gen words (GenerateAlloc seed size nodes) h first = record {
+opens_gen words (Makes (GenerateAlloc seed size nodes)) h first = record {
   seed = seed;
   size = size;
   seed_fits = h.seed_fits;
@@ -86,9 +88,9 @@ opens_gen words (GenerateAlloc seed size nodes) h first = record {
 pub first_words : (words : List (List ℕ)) (command : Command) → IsCommand words command
     → StandsAt words 0 (codes "alloc")
     ⊎ (StandsAt words 0 (codes "run") ⊎ (StandsAt words 0 (codes "check") ⊎ StandsAt words 0 (codes "gen")))
-first_words words (Alloc options) h = inl (read_at words _ 0 h.spelled)
-first_words words Run h = inr (inl (read_at words _ 0 h))
-first_words words RunCode h = inr (inl (read_at words _ 0 h))
-first_words words Check h = inr (inr (inl (read_at words _ 0 h)))
-first_words words (Generate seed size) h = inr (inr (inr (read_at words _ 0 h.spelled)))
-first_words words (GenerateAlloc seed size nodes) h = inr (inr (inr (read_at words _ 0 h.spelled)))
+first_words words (Reads (Alloc options)) h = inl (read_at words _ 0 h.spelled)
+first_words words (Reads Run) h = inr (inl (read_at words _ 0 h))
+first_words words (Reads RunCode) h = inr (inl (read_at words _ 0 h))
+first_words words (Reads Check) h = inr (inr (inl (read_at words _ 0 h)))
+first_words words (Makes (Generate seed size)) h = inr (inr (inr (read_at words _ 0 h.spelled)))
+first_words words (Makes (GenerateAlloc seed size nodes)) h = inr (inr (inr (read_at words _ 0 h.spelled)))

@@ -3,7 +3,8 @@ use Rattle.std.proofs.Common.{ℕ, ◌≡◌, ◌+◌, ◌<◌, ◌^◌, inl, in
 use Rattle.std.specs.Fmt.{decimal}
 use Rattle.std.proofs.lemmas.Bool.{eqb-false}
 use Rattle.std.proofs.lemmas.Fmt.{decimal_digit, decimal_step, decimal_injective}
-use Rattle.un_commands.specs.declared.command.Command.TheVariants.{Alloc, RunCode, Check}
+use Rattle.un_commands.specs.declared.command.Command.TheVariants.{Reads}
+use Rattle.un_commands.specs.declared.command.ReadingCommand.TheVariants.{Alloc, RunCode, Check}
 use Rattle.un_commands.specs.declared.setting.Setting.{Setting}
 use Rattle.un_commands.specs.declared.setting.Setting.TheVariants.{Nodes, Regs, Slots}
 use Rattle.un_commands.specs.Commands.{IsCommand, IsBadWord}
@@ -91,7 +92,7 @@ slots_twice = bad_flag twice 3 (with_setting none_given (Slots 1)) (codes "--slo
 abbrev both : List (List ℕ)
 both = codes "alloc" ∷ codes "--slots" ∷ codes "3" ∷ codes "--nodes" ∷ codes "5" ∷ []
 
-slots_and_nodes : IsCommand both (Alloc (record { nodes = 5; regs = None; slots = 3 }))
+slots_and_nodes : IsCommand both (Reads (Alloc (record { nodes = 5; regs = None; slots = 3 })))
 slots_and_nodes = is_alloc both 5 _
     (so_far_more both 3 (with_setting none_given (Slots 3)) (Nodes 5)
     (so_far_more both 1 none_given (Slots 3) (so_far_none both refl)
@@ -99,7 +100,7 @@ slots_and_nodes = is_alloc both 5 _
     (record { fresh = refl; flag = refl; number = ap Some (digit 5 (lit< tt)); ranged = (lit≤ tt, lit≤ tt) })) refl
 
 -- `alloc` alone
-alone : IsCommand (codes "alloc" ∷ []) (Alloc (record { nodes = 2000; regs = None; slots = 64 }))
+alone : IsCommand (codes "alloc" ∷ []) (Reads (Alloc (record { nodes = 2000; regs = None; slots = 64 })))
 alone = is_alloc (codes "alloc" ∷ []) 1 none_given (so_far_none (codes "alloc" ∷ []) refl) refl
 
 -- `gen 7`
@@ -125,7 +126,7 @@ no_count = bad_nodes (codes "gen" ∷ codes "7" ∷ codes "16" ∷ codes "--node
 
 -- `run --code x`
 word_more : IsBadWord (codes "run" ∷ codes "--code" ∷ codes "x" ∷ []) 2
-word_more = bad_word (codes "run" ∷ codes "--code" ∷ codes "x" ∷ []) 2 RunCode (codes "run" ∷ codes "--code" ∷ []) refl refl
+word_more = bad_word (codes "run" ∷ codes "--code" ∷ codes "x" ∷ []) 2 (Reads RunCode) (codes "run" ∷ codes "--code" ∷ []) refl refl
     (λ other others is alike. elim (opens_run others other is (sym (alike 0 (lit< tt)))) [
       | inl alone_run ↦ no _ (alike 1 (lit< tt) ∙ read_at others _ 1 alone_run.1)
       | inr with_code ↦ no _ (alike 2 (lit< tt) ∙ read_at others _ 2 with_code.1)
@@ -135,12 +136,12 @@ word_more = bad_word (codes "run" ∷ codes "--code" ∷ codes "x" ∷ []) 2 Run
     no w e = cc
 
 -- `check`
-check_alone : IsCommand (codes "check" ∷ []) Check
+check_alone : IsCommand (codes "check" ∷ []) (Reads Check)
 check_alone = refl
 
 -- `check x`
 word_behind_check : IsBadWord (codes "check" ∷ codes "x" ∷ []) 1
-word_behind_check = bad_word (codes "check" ∷ codes "x" ∷ []) 1 Check (codes "check" ∷ []) refl refl
+word_behind_check = bad_word (codes "check" ∷ codes "x" ∷ []) 1 (Reads Check) (codes "check" ∷ []) refl refl
     (λ other others is alike. no _ (alike 1 (lit< tt) ∙ read_at others _ 1 (opens_check others other is (sym (alike 0 (lit< tt)))).1))
   where
     no : (w : List ℕ) → Some w ≡ None → ⊥

@@ -1,19 +1,21 @@
 -- The grammar of the words of a command line.
 use Rattle.std.specs.Prelude.{ℕ, ◌≡◌, ◌+◌, ◌<◌, ◌^◌, List, [], ◌∷◌, codes, take}
 use Rattle.un_commands.specs.declared.command.Command.{Command}
-use Rattle.un_commands.specs.declared.command.Command.TheVariants.{Alloc, Run, RunCode, Check, Generate, GenerateAlloc}
+use Rattle.un_commands.specs.declared.command.Command.TheVariants.{Reads, Makes}
+use Rattle.un_commands.specs.declared.command.ReadingCommand.TheVariants.{Alloc, Run, RunCode, Check}
+use Rattle.un_commands.specs.declared.command.MakingCommand.TheVariants.{Generate, GenerateAlloc}
 use Rattle.un_commands.specs.Alloc.{IsAlloc, AreSearchOptions}
 use Rattle.un_commands.specs.Generate.{IsSize, IsGenerate, IsGenerateAlloc}
 use Rattle.un_commands.specs.Settings.{IsCountOfNodes}
 
 -- the words of a line are those of a command
 abbrev pub IsCommand : List (List ℕ) → Command → Type 0
-IsCommand words (Alloc options) = IsAlloc words options
-IsCommand words Run = words ≡ codes "run" ∷ []
-IsCommand words RunCode = words ≡ codes "run" ∷ codes "--code" ∷ []
-IsCommand words Check = words ≡ codes "check" ∷ []
-IsCommand words (Generate seed size) = IsGenerate words seed size
-IsCommand words (GenerateAlloc seed size nodes) = IsGenerateAlloc words seed size nodes
+IsCommand words (Reads (Alloc options)) = IsAlloc words options
+IsCommand words (Reads Run) = words ≡ codes "run" ∷ []
+IsCommand words (Reads RunCode) = words ≡ codes "run" ∷ codes "--code" ∷ []
+IsCommand words (Reads Check) = words ≡ codes "check" ∷ []
+IsCommand words (Makes (Generate seed size)) = IsGenerate words seed size
+IsCommand words (Makes (GenerateAlloc seed size nodes)) = IsGenerateAlloc words seed size nodes
 
 -- the first k words, or all of them where there are fewer, are the first k of some command's words
 pub record BeginsCommand (words : List (List ℕ)) (k : ℕ) : Type 0 where
@@ -30,9 +32,9 @@ pub record IsBadWord (words : List (List ℕ)) (place : ℕ) : Type 0 where
 
 -- the numbers of a command are in their ranges
 abbrev pub IsRanged : Command → Type 0
-IsRanged (Alloc options) = AreSearchOptions options
-IsRanged Run = Unit {0}
-IsRanged RunCode = Unit {0}
-IsRanged Check = Unit {0}
-IsRanged (Generate seed size) = (seed < 2 ^ 64) × IsSize size
-IsRanged (GenerateAlloc seed size nodes) = (seed < 2 ^ 64) × IsSize size × IsCountOfNodes nodes
+IsRanged (Reads (Alloc options)) = AreSearchOptions options
+IsRanged (Reads Run) = Unit {0}
+IsRanged (Reads RunCode) = Unit {0}
+IsRanged (Reads Check) = Unit {0}
+IsRanged (Makes (Generate seed size)) = (seed < 2 ^ 64) × IsSize size
+IsRanged (Makes (GenerateAlloc seed size nodes)) = (seed < 2 ^ 64) × IsSize size × IsCountOfNodes nodes

@@ -4,7 +4,7 @@ ghost use Rattle.std.specs.Prelude.{◌+◌, ◌<◌, ◌^◌, IfOk, IfErr, code
 ghost use Rattle.un_commands.specs.Commands.{IsCommand, IsBadWord};
 ghost use Rattle.un_commands.specs.Places.{StandsAt, IsNext, IsBadSetting};
 
-use crate::command::{Command, MOST_NODES};
+use crate::command::{Command, MOST_NODES, ReadingCommand};
 use crate::place::number_within;
 use crate::setting::{Given, Setting};
 use un_isa::reg::SLOTS;
@@ -51,5 +51,5 @@ pub fn read_alloc(words: &[Word]) -> Result<Command, u32>
         given = given.with(setting);
         place += 2;
     }
-    Ok(Command::Alloc(given.options()))
+    Ok(Command::Reads(ReadingCommand::Alloc(given.options())))
 }

@@ -4,7 +4,7 @@ ghost use Rattle.std.specs.Prelude.{IfOk, IfErr, codes};
 ghost use Rattle.un_commands.specs.Commands.{IsCommand, IsBadWord};
 ghost use Rattle.un_commands.specs.Places.{StandsAt};
 
-use crate::command::Command;
+use crate::command::{Command, ReadingCommand};
 use crate::place::end_at;
 use un_outside::words::Word;
 
@@ -18,5 +18,5 @@ pub fn read_check(words: &[Word]) -> Result<Command, u32>
     ensures bad { IfErr result (IsBadWord words.now) }
 {
     end_at(words, 1)?;
-    Ok(Command::Check)
+    Ok(Command::Reads(ReadingCommand::Check))
 }

@@ -37,9 +37,9 @@ impl SearchOptions {
     }
 }
 
-/// What a command line asks for.
+/// What a command line may ask for over an input.
 #[derive(Clone, Copy)]
-pub enum Command {
+pub enum ReadingCommand {
     /// The report of a function, with its code.
     Alloc(SearchOptions),
     /// What a function does from a start.
@@ -48,8 +48,22 @@ pub enum Command {
     RunCode,
     /// Whether the report of a function is accepted.
     Check,
+}
+
+/// What it may ask for without one.
+#[derive(Clone, Copy)]
+pub enum MakingCommand {
     /// The function that is made from a seed, with so many blocks, 1 to 16.
     Generate { seed: u64, size: u32 },
     /// The report of such a function, by a search of so many nodes, 1 to 200,000.
     GenerateAlloc { seed: u64, size: u32, nodes: u32 },
+}
+
+/// What a command line asks for.
+#[derive(Clone, Copy)]
+pub enum Command {
+    /// What is put out over an input.
+    Reads(ReadingCommand),
+    /// What is put out without one.
+    Makes(MakingCommand),
 }

@@ -5,7 +5,7 @@ ghost use Rattle.un_commands.specs.Commands.{IsCommand, IsBadWord};
 ghost use Rattle.un_commands.specs.Places.{StandsAt};
 ghost use Rattle.un_commands.specs.Generate.{AsksFor};
 
-use crate::command::{Command, MOST_NODES, MOST_SIZE};
+use crate::command::{Command, MOST_NODES, MOST_SIZE, MakingCommand};
 use crate::place::{end_at, number_at, number_within, word_at};
 use un_outside::words::Word;
 
@@ -19,12 +19,12 @@ fn read_rest(words: &[Word], seed: u64, size: u32) -> Result<Command, u32>
     ensures bad { IfErr result (IsBadWord words.now) }
 {
     if words.len() == 3 {
-        return Ok(Command::Generate { seed, size });
+        return Ok(Command::Makes(MakingCommand::Generate { seed, size }));
     }
     word_at(words, 3, b"--nodes")?;
     let nodes = number_within(words, 4, 1, MOST_NODES)?;
     end_at(words, 5)?;
-    Ok(Command::GenerateAlloc { seed, size, nodes })
+    Ok(Command::Makes(MakingCommand::GenerateAlloc { seed, size, nodes }))
 }
 
 /// The command of words that begin with `gen`.

@@ -4,7 +4,7 @@ ghost use Rattle.std.specs.Prelude.{IfOk, IfErr, codes};
 ghost use Rattle.un_commands.specs.Commands.{IsCommand, IsBadWord};
 ghost use Rattle.un_commands.specs.Places.{StandsAt};
 
-use crate::command::Command;
+use crate::command::{Command, ReadingCommand};
 use crate::place::{end_at, word_at};
 use un_outside::words::Word;
 
@@ -18,9 +18,9 @@ pub fn read_run(words: &[Word]) -> Result<Command, u32>
     ensures bad { IfErr result (IsBadWord words.now) }
 {
     if words.len() == 1 {
-        return Ok(Command::Run);
+        return Ok(Command::Reads(ReadingCommand::Run));
     }
     word_at(words, 1, b"--code")?;
     end_at(words, 2)?;
-    Ok(Command::RunCode)
+    Ok(Command::Reads(ReadingCommand::RunCode))
 }

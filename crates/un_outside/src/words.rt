@@ -1,9 +1,11 @@
 //! Words of a command line.
 
-ghost use Rattle.std.specs.Prelude.{◌≡◌, ◌↔◌, ◌++◌, ◌∷◌, [], IfOk, OnOk, OnErr, IsTrue};
+ghost use Rattle.std.specs.Prelude.{◌≡◌, ◌↔◌, ◌++◌, ◌∷◌, [], IfOk, OnOk, OnErr, IsTrue, drop, map, string_bytes};
+ghost use Rattle.std.specs.Vec.Iter.{into_iter_items};
 
 use std::alloc::Global;
 use std::env;
+use std::env::Args;
 use std::marker::Model;
 use std::rt::Env;
 use un_base::memory_error::NoMemory;
@@ -64,17 +66,29 @@ pub fn push_word(alloc: Global, words: &mut Vec<Word>, text: &str) -> Result<(),
     }
 }
 
+/// The words among the texts of a command line: all but the first one, which names the program.
+///
+/// # Errors
+/// `NoMemory` where there is no memory for them.
+pub fn words_among(alloc: Global, texts: Args) -> Result<Vec<Word>, NoMemory>
+    ensures { IfOk result (λ words. words.items ≡ map string_bytes (drop 1 (into_iter_items texts))) }
+{
+    let mut rest = texts;
+    let _name = rest.next();
+    let mut words = Vec::new(alloc);
+    for text in rest {
+        push_word(alloc, &mut words, text.as_str())?;
+    }
+    Ok(words)
+}
+
 /// The arguments of the program, without its own name.
 ///
 /// # Errors
 /// `NoMemory` where there is no memory for them, or where one of them is no text.
 pub fn words(rt: &(impl Env + AllocGlobal)) -> Result<Vec<Word>, NoMemory> {
-    let Ok(texts) = env::args(rt) else {
-        return Err(NoMemory);
-    };
-    let mut words = Vec::new(rt.alloc());
-    for text in texts.skip(1) {
-        push_word(rt.alloc(), &mut words, text.as_str())?;
+    match env::args(rt) {
+        Ok(texts) => words_among(rt.alloc(), texts),
+        Err(_) => Err(NoMemory),
     }
-    Ok(words)
 }

@@ -6,7 +6,12 @@ use Rattle.std.specs.declared.result.Result.{Result}
 use Rattle.std.specs.declared.result.Result.TheVariants.{Ok, Err}
 use Rattle.un_base.specs.declared.memory_error.NoMemory.{NoMemory}
 use Rattle.un_isa.specs.Hexagon.{HEXAGON}
+use Rattle.un_isa.proofs.HexagonTable.{hexagon_fit}
 use Rattle.un_ir.specs.declared.function.Function.{Function}
+use Rattle.un_model.specs.Options.{AreOptions}
+use Rattle.un_model.specs.declared.model.Model.{Model}
+use Rattle.un_problem.specs.Problems.{IsModelOf, IsProblemOf}
+use Rattle.un_problem.proofs.ProblemLaws.{problem}
 use Rattle.un_outside.specs.declared.status.NoCause.{NoCause}
 use Rattle.un_report.specs.Views.{IsViewOf}
 use Rattle.un_report.specs.declared.report.Report.{Report}
@@ -23,7 +28,11 @@ use Rattle.un_outside.specs.declared.status.Status.{Status}
 use Rattle.un_tree.specs.Texts.{Fits, tree_text}
 use Rattle.un_tree.specs.declared.node.Node.{Node}
 use Rattle.un_check.specs.Causes.{IsTold, AreLines, claim_with}
-use Rattle.un_check.specs.Sound.{IsSound}
+use Rattle.un_check.specs.Laws.{BoundsAll, HasCodeFor}
+use Rattle.un_check.specs.Sound.{IsSound, IsSoundAnswer}
+use Rattle.un_check.proofs.OneModel.{model_one}
+use Rattle.un_check.proofs.SoundBounds.{sound_bounds}
+use Rattle.un_check.proofs.SoundCodes.{sound_codes}
 use Rattle.un_top.specs.Checks.{IsAnswered, IsCheckOf, IsCheck, RefusesReport, RefusesCheck}
 
 -- the report that a view is of
@@ -51,6 +60,29 @@ pub view_lines : (text : List ℕ) (v : ReportView) → IsViewRead text v → Ar
 view_lines text v h = let lines = h.is_view.tree in
     record { nodes = lines.nodes; fit = lines.are.1; spelled = lines.spelled; counted = sym lines.are.0 }
 
+-- a sound answer is one for each model of the function, which are one
+sound_by : (f : Function) (r : Report) (m : Model) → IsSound HEXAGON f r → IsModelOf HEXAGON f r.options m
+    → IsSoundAnswer m r.tree.nodes.items r.answer
+sound_by f r m h is =
+    subst (λ (n : Model). IsSoundAnswer n r.tree.nodes.items r.answer) (model_one HEXAGON f r.options h.model m h.is_model is) h.sound.answer
+
+problem_by : (f : Function) (r : Report) (m : Model) → AreOptions r.options → IsModelOf HEXAGON f r.options m → IsProblemOf f m
+problem_by f r m options is = problem HEXAGON f r.options m hexagon_fit options is
+
+-- so its code does what the function does, for its cost
+code_by : (f : Function) (r : Report) (told : Result (Unit {0}) NoCause) → AreOptions r.options → OnOk told (IsSound HEXAGON f r)
+    → OnOk told ((m : Model) → IsModelOf HEXAGON f r.options m → HasCodeFor f m r.answer)
+code_by f r (Err cause) options sound = tt
+code_by f r (Ok all) options sound = λ m is.
+    sound_codes f m r.tree.nodes.items r.answer (problem_by f r m options is) (sound_by f r m sound is)
+
+-- and no solution costs less than its bound
+bounds_by : (f : Function) (r : Report) (told : Result (Unit {0}) NoCause) → AreOptions r.options → OnOk told (IsSound HEXAGON f r)
+    → OnOk told ((m : Model) → IsModelOf HEXAGON f r.options m → BoundsAll m r.answer)
+bounds_by f r (Err cause) options sound = tt
+bounds_by f r (Ok all) options sound = λ m is.
+    sound_bounds f m r.tree.nodes.items r.answer (problem_by f r m options is) (sound_by f r m sound is)
+
 pub answered : (g : Global) (f : Function) (text : List ℕ) (v : ReportView) (result : Result (Result (Unit {0}) NoCause) NoMemory)
     → IsViewRead text v
     → ((nodes : List Node) → All Fits nodes → v.tree.now ≡ tree_text nodes → IfOk result (IsTold HEXAGON f v.options (claim_with v nodes)))
@@ -61,12 +93,15 @@ answered g f text v (Ok answer) h told sound =
     let r : Report = report_of g v h.is_view in
     let made = report_made v r h.is_view refl refl refl refl refl in
     let lines = h.is_view.tree in
+    let is_sound = sound r made.1 lines.are.1 in
     record {
       report = r;
       reported = report_read text v r h made.0 made.1;
       answer = refl;
       told = told lines.nodes lines.are.1 lines.spelled;
-      sound = sound r made.1 lines.are.1;
+      sound = is_sound;
+      code = code_by f r answer h.is_view.options is_sound;
+      bounds = bounds_by f r answer h.is_view.options is_sound;
     }
 
 -- ---- parts of an input

@@ -1,11 +1,14 @@
+pub mod Accepted
 pub mod Answered
 pub mod CheckLaws
+pub mod CheckTexts
 pub mod Completed
 pub mod FaultLaws
 pub mod GeneratedLaws
+pub mod Lawful
 pub mod Parts
 pub mod Refused
 pub mod ReportLines
 pub mod Rows
 pub mod SearchLaws
-pub mod Told
+pub mod Written

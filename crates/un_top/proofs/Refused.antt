@@ -1,27 +1,49 @@
--- Why there is no outcome, as the answer of a command.
+-- Why there is no outcome: of a text, and as the answer of a command.
 use Rattle.std.proofs.Common.{ℕ, ◌≤◌, inr, List, length}
-use Rattle.un_commands.specs.declared.command.Command.TheVariants.{Run, RunCode, Check}
 use Rattle.un_runs.specs.declared.refused.Refused.{Refused}
 use Rattle.un_runs.specs.declared.refused.Refused.TheVariants.{NoMemory, TextFault, BadSecond}
-use Rattle.un_runs.specs.Refusals.{RefusesSource, RefusesCode}
-use Rattle.un_top.specs.Checks.{RefusesCheck}
+use Rattle.un_runs.specs.Refusals.{RefusesFunction, RefusesSource, RefusesCode}
+use Rattle.un_commands.specs.declared.command.SearchOptions.{SearchOptions}
+use Rattle.un_reader.specs.Errors.{Tells}
+use Rattle.un_reader.specs.Read.{IsTextFault}
+use Rattle.un_reader.specs.declared.error.ReadError.{ReadError}
+use Rattle.un_reader.specs.declared.error.ReadError.TheVariants as ReadErrors
+use Rattle.un_report_reader.specs.Readings.{IsErrorOf}
+use Rattle.un_report_reader.specs.declared.error.ReportError.{ReportError}
+use Rattle.un_report_reader.specs.declared.error.ReportError.TheVariants as ReportErrors
+use Rattle.un_top.specs.Behaviours.{of_alloc, of_run, of_run_code, of_check}
+use Rattle.un_top.specs.Checks.{RefusesReport, RefusesCheck, unread_by, unviewed_by}
 use Rattle.un_top.specs.Runs.{RefusesText, status_by}
 use Rattle.un_top.specs.declared.limits.TheConstants.{INPUT}
 
+pub unread : (text : List ℕ) (error : ReadError) → Tells (IsTextFault text) error → RefusesFunction text (unread_by error)
+unread text ReadErrors.NoMemory told = tt
+unread text (ReadErrors.TextFault line code) told = record { fault = told.0; is = told.2; coded = told.1 }
+
+pub unviewed : (text : List ℕ) (error : ReportError) → IsErrorOf text error → RefusesReport text (unviewed_by error)
+unviewed text ReportErrors.NoMemory told = tt
+unviewed text (ReportErrors.BadReport line) told = told
+
+pub function_refused : (o : SearchOptions) (text : List ℕ) (refused : Refused) → RefusesFunction text refused
+    → RefusesText (of_alloc o) text (status_by refused)
+function_refused o text NoMemory told = tt
+function_refused o text (TextFault line code) told = told
+function_refused o text (BadSecond line) told = absurd told
+
 pub source_refused : (text : List ℕ) (refused : Refused) → length text ≤ INPUT → RefusesSource text refused
-    → RefusesText Run text (status_by refused)
+    → RefusesText of_run text (status_by refused)
 source_refused text NoMemory few told = tt
 source_refused text (TextFault line code) few told = inr (few, told)
 source_refused text (BadSecond line) few told = (few, told)
 
 pub code_refused : (text : List ℕ) (refused : Refused) → length text ≤ INPUT → RefusesCode text refused
-    → RefusesText RunCode text (status_by refused)
+    → RefusesText of_run_code text (status_by refused)
 code_refused text NoMemory few told = tt
 code_refused text (TextFault line code) few told = absurd told
 code_refused text (BadSecond line) few told = (few, told)
 
 pub check_refused : (text : List ℕ) (refused : Refused) → length text ≤ INPUT → RefusesCheck text refused
-    → RefusesText Check text (status_by refused)
+    → RefusesText of_check text (status_by refused)
 check_refused text NoMemory few told = tt
 check_refused text (TextFault line code) few told = inr (few, told)
 check_refused text (BadSecond line) few told = (few, told)

@@ -55,6 +55,7 @@ pub record IsSolved (m : Model) (start : Option Solution) (nodes : â„•) (a : Ans
 
 -- what a report says of its answer and its tree
 record Parts (f : Function) (m : Model) (live : List (List NameId)) (nodes : â„•) (ans : Answered) (t : List Node) : Type 0 where
+  pub few : length t â‰¤ nodes
   pub used : Contains t Open â†’ IsOdd (length t) nodes
   pub sound : IsSoundAnswer m t ans
   pub searched : IsCertificate m (limit_of ans) t
@@ -88,6 +89,7 @@ module _ (f : Function) (m : Model) (e : IsExtOf m.ext.table f m.ext) (nodes : â
       â†’ Parts f m e.live nodes ans u
   parts (Solved s cost bound t) (Code c b code x) u h w =
       moved (Î» c b x u. Parts f m e.live nodes (Code c b code x) u) c cost b bound x s u t.nodes.items w.0 w.1 w.2 w.3 (record {
+        few = h.tree.few;
         used = h.tree.used;
         sound = record {
           solution = h.solution.0;
@@ -111,6 +113,7 @@ module _ (f : Function) (m : Model) (e : IsExtOf m.ext.table f m.ext) (nodes : â
   parts (Solved s cost bound t) Spent u h w = absurd w
   parts (Refuted t) (Code c b code x) u h w = absurd w
   parts (Refuted t) Infeasible u h w = subst (Parts f m e.live nodes Infeasible) (sym w) (record {
+    few = h.infeasible.0.few;
     used = h.infeasible.0.used;
     sound = record { standing = standing m None t.nodes.items h.infeasible.0.certificate; closed = h.infeasible.1 };
     searched = h.infeasible.0.certificate;
@@ -120,6 +123,7 @@ module _ (f : Function) (m : Model) (e : IsExtOf m.ext.table f m.ext) (nodes : â
   parts (Stopped t) (Code c b code x) u h w = absurd w
   parts (Stopped t) Infeasible u h w = absurd w
   parts (Stopped t) Spent u h w = subst (Parts f m e.live nodes Spent) (sym w) (record {
+    few = h.spent.0.few;
     used = h.spent.0.used;
     sound = record { standing = standing m None t.nodes.items h.spent.0.certificate; some = h.spent.1 };
     searched = h.spent.0.certificate;
@@ -139,6 +143,7 @@ module _ (f : Function) (m : Model) (e : IsExtOf m.ext.table f m.ext) (nodes : â
       record {
         chosen = w.chosen;
         budget = w.budget;
+        few = p.few;
         sound = sound;
         searched = p.searched;
         accepted = search_not f m r sound p.searched m.ext.table r.options (model_under f m r.options w.chosen g);

@@ -2,19 +2,27 @@
 use Rattle.std.specs.Prelude.{ℕ, ◌≡◌, List, ◌++◌, ⊤, codes, decimal, OnOk}
 use Rattle.std.specs.declared.result.Result.{Result}
 use Rattle.std.specs.declared.result.Result.TheVariants.{Ok, Err}
+use Rattle.un_base.specs.Lines.{joined_lines}
 use Rattle.un_isa.specs.Hexagon.{HEXAGON}
 use Rattle.un_ir.specs.declared.function.Function.{Function}
+use Rattle.un_model.specs.declared.model.Model.{Model}
 use Rattle.un_outside.specs.declared.status.Status.{Status}
 use Rattle.un_outside.specs.declared.status.Status.TheVariants.{Done, No}
 use Rattle.un_outside.specs.declared.status.NoCause.{NoCause}
 use Rattle.un_outside.specs.declared.status.NoCause.TheVariants.{Name, Solution, Cost, Listing, Strict, Alive, Closed, Short, Spent, Bound}
+use Rattle.un_problem.specs.Problems.{IsModelOf}
 use Rattle.un_reader.specs.Read.{IsRead}
+use Rattle.un_reader.specs.declared.error.ReadError.{ReadError}
+use Rattle.un_reader.specs.declared.error.ReadError.TheVariants as ReadErrors
 use Rattle.un_report.specs.declared.report.Answered.{Answered}
 use Rattle.un_report.specs.declared.report.Answered.TheVariants.{Code, Infeasible, Spent as Stopped}
 use Rattle.un_report.specs.declared.report.Report.{Report}
 use Rattle.un_report_reader.specs.FirstBad.{IsFirstBad}
 use Rattle.un_report_reader.specs.Readings.{IsReportRead}
+use Rattle.un_report_reader.specs.declared.error.ReportError.{ReportError}
+use Rattle.un_report_reader.specs.declared.error.ReportError.TheVariants as ReportErrors
 use Rattle.un_check.specs.Causes.{IsTold, claim_of}
+use Rattle.un_check.specs.Laws.{BoundsAll, HasCodeFor}
 use Rattle.un_check.specs.Sound.{IsSound}
 use Rattle.un_runs.specs.Inputs.{first_part, second_part}
 use Rattle.un_runs.specs.Refusals.{IsFaultOf}
@@ -58,13 +66,16 @@ told_status (Err cause) = No cause
 
 -- ---- over an input
 
--- the answer to the report that a text is, on a function: what it claims is all right, and then it is sound, or there is a first cause
+-- the answer to the report that a text is, on a function: what it claims is all right, or there is a first cause. Where it is all right, the
+-- report is sound; and by the function's model its code does what the function does, for its cost, and no solution costs less than its bound
 pub record IsAnswered (f : Function) (text : List ℕ) (a : Answered) (result : Result (Unit {0}) NoCause) : Type 0 where
   pub report : Report
   pub reported : IsReportRead text report
   pub answer : report.answer ≡ a
   pub told : IsTold HEXAGON f report.options (claim_of report) result
   pub sound : OnOk result (IsSound HEXAGON f report)
+  pub code : OnOk result ((m : Model) → IsModelOf HEXAGON f report.options m → HasCodeFor f m report.answer)
+  pub bounds : OnOk result ((m : Model) → IsModelOf HEXAGON f report.options m → BoundsAll m report.answer)
 
 -- its line, and how a run ends that writes it
 pub record IsCheckOf (f : Function) (text : List ℕ) (status : Status) (out : List ℕ) : Type 0 where
@@ -87,7 +98,25 @@ pub record IsCheckInput (input : List ℕ) : Type 0 where
   pub report : Report
   pub reported : IsReportRead (second_part input) report
 
+-- what `check` reads of a function's text and a report's: a line `---` stands between them
+abbrev pub check_text : List ℕ → List ℕ → List ℕ
+check_text text report = text ++ (codes "---\n" ++ report)
+
+-- each line of a text has its line feed
+abbrev pub IsOfLines : List ℕ → Type 0
+IsOfLines text = (lines : List (List ℕ)) × (text ≡ joined_lines lines)
+
 -- ---- refusals
+
+-- why there is no outcome where a function's text is not read
+abbrev pub unread_by : ReadError → Refused
+unread_by ReadErrors.NoMemory = NoMemory
+unread_by (ReadErrors.TextFault line code) = TextFault line code
+
+-- where a report's text is not read
+abbrev pub unviewed_by : ReportError → Refused
+unviewed_by ReportErrors.NoMemory = NoMemory
+unviewed_by (ReportErrors.BadReport line) = BadSecond line
 
 -- of a report's text
 abbrev pub RefusesReport : List ℕ → Refused → Type 0

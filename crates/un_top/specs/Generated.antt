@@ -1,5 +1,5 @@
 -- The report of a generated function, behind a line that sums it up.
-use Rattle.std.specs.Prelude.{ℕ, ◌≡◌, List, ◌++◌, None, length, codes, decimal}
+use Rattle.std.specs.Prelude.{ℕ, ◌≡◌, List, ◌++◌, length, codes, decimal}
 use Rattle.std.specs.List.{flat_map}
 use Rattle.un_base.specs.declared.ids.NameId.{NameId}
 use Rattle.un_isa.specs.Hexagon.{HEXAGON}
@@ -11,6 +11,7 @@ use Rattle.un_outside.specs.declared.status.Status.{Status}
 use Rattle.un_outside.specs.declared.status.Status.TheVariants.{Done}
 use Rattle.un_problem.specs.Problems.{IsModelOf, default_options}
 use Rattle.un_report.specs.Reports.{report_text}
+use Rattle.un_report_reader.specs.Readings.{IsReport}
 use Rattle.un_report.specs.declared.report.Answered.{Answered}
 use Rattle.un_report.specs.declared.report.Answered.TheVariants.{Code, Infeasible, Spent}
 use Rattle.un_report.specs.declared.report.Report.{Report}
@@ -45,10 +46,11 @@ report_words r =
 abbrev pub summary_line : ℕ → ℕ → Function → Report → List ℕ
 summary_line seed size f r = function_words seed size f ++ report_words r
 
--- the text of a search's report behind this line; a run that writes it whole ends so
+-- the text of a search's report, which is one that is read, behind this line; a run that writes it whole ends so
 pub record IsSummedUp (seed size nodes : ℕ) (f : Function) (m : Model) (live : List (List NameId)) (status : Status) (out : List ℕ) : Type 0 where
   pub report : Report
   pub found : IsSearchOf f m live nodes report
+  pub is_report : IsReport report
   pub ends : status ≡ status_of report.answer
   pub printed : out ≡ summary_line seed size f report ++ report_text report
 

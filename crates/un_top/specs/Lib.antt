@@ -1,3 +1,4 @@
+pub mod Behaviours
 pub mod Checks
 pub mod Generated
 pub mod Reports

@@ -1,5 +1,5 @@
 -- The report of a function's text: what a search for its code answered.
-use Rattle.std.specs.Prelude.{ℕ, ◌≡◌, ◌≢◌, ◌≤◌, List, All}
+use Rattle.std.specs.Prelude.{ℕ, ◌≡◌, ◌≢◌, ◌≤◌, List, All, length}
 use Rattle.un_base.specs.declared.ids.NameId.{NameId}
 use Rattle.un_outside.specs.declared.status.Status.{Status}
 use Rattle.un_outside.specs.declared.status.Status.TheVariants.{Done, Infeasible as NoCode, Spent as NoNodes}
@@ -27,6 +27,7 @@ use Rattle.un_certificate.specs.Certificates.{IsCertificate}
 use Rattle.un_check.specs.Causes.{HasCause, claim_of, limit_of}
 use Rattle.un_check.specs.Sound.{IsSoundFor}
 use Rattle.un_report.specs.Reports.{report_text}
+use Rattle.un_report_reader.specs.Readings.{IsReport}
 use Rattle.un_report.specs.declared.report.Answered.{Answered}
 use Rattle.un_report.specs.declared.report.Answered.TheVariants.{Code, Infeasible, Spent}
 use Rattle.un_report.specs.declared.report.Report.{Report}
@@ -60,19 +61,21 @@ status_of (Code cost bound code s) = Done
 status_of Infeasible = NoCode
 status_of Spent = NoNodes
 
--- the report of a search of the function's model with so many nodes, where these names are live at each block's start
+-- the report of a search of the function's model with so many nodes, where these names are live at each block's start; its tree has no more
 pub record IsSearchOf (f : Function) (m : Model) (live : List (List NameId)) (nodes : ℕ) (r : Report) : Type 0 where
   pub chosen : r.options ≡ m.options
   pub budget : r.nodes ≡ nodes
+  pub few : length r.tree.nodes.items ≤ nodes
   pub sound : IsSoundFor m f r
   pub searched : IsCertificate m (limit_of r.answer) r.tree.nodes.items
   pub accepted : HasNoCause m.ext.table f r
   pub answer : IsGoodAnswer f m live nodes r.tree.nodes.items r.answer
 
--- the text of such a report; a run that writes it whole ends so
+-- the text of such a report, which is one that is read; a run that writes it whole ends so
 pub record IsSearchText (f : Function) (m : Model) (live : List (List NameId)) (nodes : ℕ) (status : Status) (out : List ℕ) : Type 0 where
   pub report : Report
   pub is_search : IsSearchOf f m live nodes report
+  pub is_report : IsReport report
   pub ends : status ≡ status_of report.answer
   pub printed : out ≡ report_text report
 

@@ -1,5 +1,5 @@
 -- From the start of a search to its report.
-use Rattle.std.specs.Prelude.{ℕ, ◌≡◌, List, None, Some}
+use Rattle.std.specs.Prelude.{ℕ, ◌≡◌, ⊤, List, None, Some}
 use Rattle.std.specs.declared.option.Option.{Option}
 use Rattle.un_ir.specs.declared.function.Function.{Function}
 use Rattle.un_simulation.specs.Count.{count_of}
@@ -16,6 +16,7 @@ use Rattle.un_tree.specs.declared.node.Node.{Node}
 use Rattle.un_report.specs.declared.report.Answered.{Answered}
 use Rattle.un_report.specs.declared.report.Answered.TheVariants.{Code, Infeasible, Spent}
 use Rattle.un_report.specs.declared.report.Report.{Report}
+use Rattle.un_report_reader.specs.Lines.{IsLong}
 use Rattle.un_search.specs.declared.solve.Answer.{Answer}
 use Rattle.un_search.specs.declared.solve.Answer.TheVariants.{Code as Solved, Infeasible as Refuted, Spent as Stopped}
 
@@ -44,9 +45,16 @@ IsAnswerOf f m (Stopped t) (Code c b code x) u = ⊥
 IsAnswerOf f m (Stopped t) Infeasible u = ⊥
 IsAnswerOf f m (Stopped t) Spent u = u ≡ t.nodes.items
 
+-- the cost of code and its bound are numbers of 64 bits
+abbrev pub AreLong : Answered → Type 0
+AreLong (Code cost bound code s) = IsLong cost × IsLong bound
+AreLong Infeasible = ⊤
+AreLong Spent = ⊤
+
 -- the report has the function's name, the model's options and the nodes, and the search's answer
 pub record IsReported (f : Function) (m : Model) (nodes : ℕ) (a : Answer) (r : Report) : Type 0 where
   pub named : r.name ≡ f.name
   pub chosen : r.options ≡ m.options
   pub budget : r.nodes ≡ nodes
   pub answer : IsAnswerOf f m a r.answer r.tree.nodes.items
+  pub long : AreLong r.answer

@@ -1,26 +1,21 @@
 //! The check of a report, as the program answers it.
 
-ghost use Rattle.std.specs.Prelude.{◌≡◌, ◌++◌, decimal, IfOk, IfErr, OnOk};
-ghost use Rattle.un_reader.specs.Read.{IsRead};
+ghost use Rattle.std.specs.Prelude.{◌≡◌, ◌++◌, IfOk, IfErr, OnOk};
 ghost use Rattle.un_report_reader.specs.Readings.{IsViewRead};
-ghost use Rattle.un_runs.specs.Refusals.{RefusesFunction};
 ghost use Rattle.un_top.specs.Checks.{yes_line, counted_line, no_line, told_line, told_status};
 ghost use Rattle.un_top.specs.Checks.{IsAnswered, IsCheckOf, IsCheck, RefusesReport, RefusesCheck};
 ghost use Rattle.un_top.specs.Runs.{IsWritten};
 
 use crate::output::Output;
+use crate::reading::{function_of, view_of};
 use std::alloc::Global;
 use un_base::memory_error::NoMemory;
 use un_check::report::check_view;
 use un_ir::function::Function;
 use un_ir::text::{put_number, put_text};
 use un_outside::status::{NoCause, Status};
-use un_reader::error::ReadError;
-use un_reader::read::read_function;
 use un_report::report::Answered;
 use un_report::view::ReportView;
-use un_report_reader::error::ReportError;
-use un_report_reader::read::read_view;
 use un_runs::input::split;
 use un_runs::refused::Refused;
 
@@ -92,30 +87,6 @@ fn told_status(told: Result<(), NoCause>) -> Status
     match told {
         Ok(()) => Status::Done,
         Err(cause) => Status::No(cause),
-    }
-}
-
-/// The function of a text.
-fn function_of(alloc: Global, text: &[u8]) -> Result<Function, Refused>
-    ensures ok { IfOk result (IsRead text.now) }
-    ensures refused { IfErr result (RefusesFunction text.now) }
-{
-    match read_function(alloc, text) {
-        Ok(f) => Ok(f),
-        Err(ReadError::NoMemory) => Err(Refused::NoMemory),
-        Err(ReadError::TextFault { line, code }) => Err(Refused::TextFault { line, code }),
-    }
-}
-
-/// The view of the report that a text is.
-fn view_of<'a>(alloc: Global, text: &'a [u8]) -> Result<ReportView<'a>, Refused>
-    ensures ok { IfOk result (IsViewRead text.now) }
-    ensures refused { IfErr result (RefusesReport text.now) }
-{
-    match read_view(alloc, text) {
-        Ok(view) => Ok(view),
-        Err(ReportError::NoMemory) => Err(Refused::NoMemory),
-        Err(ReportError::BadReport { line }) => Err(Refused::BadSecond { line }),
     }
 }
 

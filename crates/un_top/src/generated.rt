@@ -1,8 +1,10 @@
 //! The report of a generated function, behind a line that sums it up.
 
-ghost use Rattle.std.specs.Prelude.{◌≡◌, ◌<◌, ◌≤◌, ◌++◌, length, codes, decimal, IfOk, OnOk};
+ghost use Rattle.std.specs.Prelude.{◌≡◌, ◌<◌, ◌++◌, decimal, IfOk, OnOk};
 ghost use Rattle.un_commands.specs.Commands.{IsRanged};
+ghost use Rattle.un_commands.specs.Settings.{IsCountOfNodes};
 ghost use Rattle.un_commands.specs.declared.command.Command.{Command};
+ghost use Rattle.un_commands.specs.declared.command.MakingCommand.{MakingCommand};
 ghost use Rattle.un_problem.specs.Problems.{IsProblemOf, IsExtOf};
 ghost use Rattle.un_report.specs.Reports.{report_text};
 ghost use Rattle.un_top.specs.Generated.{cost_in, bound_in, op_count, function_words, report_words, summary_line};
@@ -114,7 +116,7 @@ fn searched(
     m: &Model,
 ) -> Result<Output, NoMemory>
     requires problem { IsProblemOf f.now m.now }
-    requires some { 1 ≤ nodes }
+    requires nodes { IsCountOfNodes nodes }
     ensures summed { IfOk result (λ out. (e : IsExtOf m.now.ext.table f.now m.now.ext)
         → IsSummedUp seed size nodes f.now m.now e.live out.status out.text.items) }
     ensures written { IfOk result (λ out. IsWritten out.status) }
@@ -132,7 +134,7 @@ fn searched(
 /// # Errors
 /// `NoMemory` where there is no memory for the search or the code.
 pub fn generated_report(alloc: Global, seed: u64, size: u32, nodes: u32) -> Result<Output, NoMemory>
-    requires { IsRanged (Command.GenerateAlloc seed size nodes) }
+    requires { IsRanged (Command.Makes (MakingCommand.GenerateAlloc seed size nodes)) }
     ensures report { IfOk result (λ out. IsGeneratedReport seed size nodes out.status out.text.items) }
     ensures written { IfOk result (λ out. IsWritten out.status) }
 {

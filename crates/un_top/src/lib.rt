@@ -4,8 +4,11 @@
 pub mod check;
 pub mod faults;
 pub mod generated;
+pub mod laws;
 pub mod limits;
 pub mod output;
 pub mod produce;
+pub mod program;
+mod reading;
 pub mod run;
 pub mod search;

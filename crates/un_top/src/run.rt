@@ -1,12 +1,16 @@
 //! Everything that the program does.
 
-ghost use Rattle.std.specs.Prelude.{◌≡◌, ℕ, ◌⊎◌, ◌<◌, ◌≤◌, true, false, Ok, Err, IfSome, IfOk, IfErr, OnOk, OnErr};
+ghost use Rattle.std.specs.Prelude.{◌≡◌, ℕ, List, ◌⊎◌, ◌<◌, Ok, Err, IfSome, IfOk, IfErr, OnErr};
 ghost use Rattle.std.specs.Io.KnownBytes.{Appends, IsAtEnd};
 ghost use Rattle.un_commands.specs.Commands.{IsBadWord, IsCommand};
 ghost use Rattle.un_commands.specs.declared.command.Command.{Command};
+ghost use Rattle.un_commands.specs.declared.command.MakingCommand.{MakingCommand};
+ghost use Rattle.un_commands.specs.declared.command.ReadingCommand.{ReadingCommand};
 ghost use Rattle.un_outside.specs.Causes.{Rose, AppendsPrefix};
-ghost use Rattle.un_top.specs.Runs.{reads_input, IsFaultOf, IsBadOf, IsFaultless, IsGoodInput, EndsWell};
-ghost use Rattle.un_top.specs.Runs.{OutAfter, KeepsOut, AnswersFault, AnswersBad, AnswersAccepted, IsAnswer, IsRefusal, IsWritten, Wrote, line_of};
+ghost use Rattle.un_outside.specs.declared.status.Status.{Status};
+ghost use Rattle.un_top.specs.Behaviours.{behaviour_of, IsDone};
+ghost use Rattle.un_top.specs.Runs.{IsFaultOf, IsLateOf, IsLate, IsOfWhole, OutAfter, KeepsOut, AnswersFault, AnswersLate, AnswersAccepted};
+ghost use Rattle.un_top.specs.Runs.{IsAnswer, IsRefusal, IsWritten, Wrote, line_of};
 
 use crate::faults::write_line;
 use crate::output::Output;
@@ -52,11 +56,18 @@ pub fn run<S: Source, K: Sink, E: Sink>(
     ensures out { IfSome (S.left src.old) (λ text. OutAfter result words.now text (K.held out.old) (K.held out.new)) }
     ensures kept { KeepsOut result (K.held out.old) (K.held out.new) }
 
-    // A command that reads its input reads it to the end before it writes; one that reads none leaves the source alone.
-    ensures read_whole { (command : Command) → IsCommand words.now command → reads_input command ≡ true → IsWritten result
+    // A command that reads its input reads it to the end before it writes, or answers for a later part of it.
+    ensures read_whole { (command : ReadingCommand) → IsCommand words.now (Command.Reads command) → IsOfWhole result
         → IsAtEnd (S.left src.new) }
-    ensures left { (command : Command) → IsCommand words.now command → reads_input command ≡ false → S.left src.new ≡ S.left src.old }
-    ensures calls { (command : Command) → IsCommand words.now command → reads_input command ≡ false → S.calls src.new ≡ S.calls src.old }
+
+    // One that reads none leaves the source alone, and its output is so whatever the source tells, unless writing failed or there was no
+    // memory.
+    ensures left { (command : MakingCommand) → IsCommand words.now (Command.Makes command) → S.left src.new ≡ S.left src.old }
+    ensures calls { (command : MakingCommand) → IsCommand words.now (Command.Makes command) → S.calls src.new ≡ S.calls src.old }
+    ensures made { (command : MakingCommand) → IsCommand words.now (Command.Makes command) → (text : List ℕ)
+        → OutAfter result words.now text (K.held out.old) (K.held out.new) }
+    ensures made_well { (command : MakingCommand) → IsCommand words.now (Command.Makes command)
+        → (result ≡ Status.WriteFault) ⊎ IsDone result }
 
     // When each other answer comes.
     ensures answers { IsAnswer words.now result }
@@ -69,15 +80,18 @@ pub fn run<S: Source, K: Sink, E: Sink>(
         → IfSome (S.left src.old) (λ text. IsFaultOf words.now text line code) }
     ensures exactly_fault { IfSome (S.left src.old) (λ text. (line code : ℕ) → IsFaultOf words.now text line code
         → AnswersFault result line code) }
-    ensures exactly_bad { IfSome (S.left src.old) (λ text. (line : ℕ) → IsBadOf words.now text line → AnswersBad result line) }
-    ensures accepted { IfSome (S.left src.old) (λ text. (command : Command) → IsCommand words.now command → IsFaultless command text
-        → AnswersAccepted result) }
-    ensures bad { (line : ℕ) → result ≡ Status.BadReport line → IfSome (S.left src.old) (λ text. IsBadOf words.now text line) }
+    ensures accepted { IfSome (S.left src.old) (λ text. (command : ReadingCommand) → IsCommand words.now (Command.Reads command)
+        → (behaviour_of command).Faultless text → AnswersAccepted result) }
+    ensures late { IsLate result → IfSome (S.left src.old) (λ text. IsLateOf words.now text result) }
+    ensures exactly_late { IfSome (S.left src.old) (λ text. (status : Status) → IsLateOf words.now text status
+        → AnswersLate result status) }
     ensures write { result ≡ Status.WriteFault → Rose (K.faults out.old) (K.faults out.new) }
 
     // A good input is answered by its output, or there was no memory, where nothing outside fails.
-    ensures complete { IfSome (S.left src.old) (λ text. (command : Command) → IsCommand words.now command → IsGoodInput command text
-        → Rose (S.faults src.old) (S.faults src.new) ⊎ (Rose (K.faults out.old) (K.faults out.new) ⊎ EndsWell command text result)) }
+    ensures complete { IfSome (S.left src.old) (λ text. (command : ReadingCommand) → IsCommand words.now (Command.Reads command)
+        → (behaviour_of command).Good text
+        → Rose (S.faults src.old) (S.faults src.new)
+        ⊎ (Rose (K.faults out.old) (K.faults out.new) ⊎ (behaviour_of command).EndsWell text result)) }
 
     // The line for the status goes to `err`, whole where its count did not rise.
     ensures err_line { AppendsPrefix (E.held err.old) (E.held err.new) (line_of result) }

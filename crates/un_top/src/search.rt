@@ -1,8 +1,10 @@
 //! The report of a search for the code of a function.
 
 ghost use Rattle.std.specs.Prelude.{◌≡◌, ◌≤◌, IfOk};
+ghost use Rattle.un_commands.specs.Settings.{IsCountOfNodes};
 ghost use Rattle.un_model.specs.Solutions.{IsSolution};
 ghost use Rattle.un_problem.specs.Problems.{IsProblemOf, IsExtOf};
+ghost use Rattle.un_report_reader.specs.Readings.{IsReport};
 ghost use Rattle.un_search.specs.Solved.{OnCode};
 ghost use Rattle.un_top.specs.Reports.{IsSearchOf};
 ghost use Rattle.un_top.specs.Searches.{IsStartOf, IsCodeOf, IsReported};
@@ -101,7 +103,8 @@ fn code_report(
 pub fn search_report(alloc: Global, f: &Function, m: &Model, nodes: u32) -> Result<Report, NoMemory>
     requires problem { IsProblemOf f.now m.now }
     requires some { 1 ≤ nodes }
-    ensures { IfOk result (λ r. (e : IsExtOf m.now.ext.table f.now m.now.ext) → IsSearchOf f.now m.now e.live nodes r) }
+    ensures search { IfOk result (λ r. (e : IsExtOf m.now.ext.table f.now m.now.ext) → IsSearchOf f.now m.now e.live nodes r) }
+    ensures read { IsCountOfNodes nodes → IfOk result IsReport }
 {
     let start = start_of(alloc, f, m)?;
     let solved = solve(alloc, m, start, nodes)?;

@@ -1,4 +1,6 @@
 use Rattle.std.proofs.Common.{arith}
+use Rattle.std.proofs.lemmas.Result.{err_from_is_err_and}
+use Rattle.un_commands.proofs.EndLaws.{bad_flag, bad_end}
 use Rattle.un_commands.proofs.RunLaws.{one_word, two_words}
 use Rattle.un_commands.proofs.run.read_run.Goals as goal
 
@@ -7,3 +9,12 @@ returns-then-words-eq1-clause-ok c = one_word c.args.words.now _ c.requires (ome
 
 pub returns-clause-ok : goal.returns-clause-ok
 returns-clause-ok c = two_words c.args.words.now _ _ c.requires c.in_ok-word_at.ensures.ok c.in_ok-end_at.ensures.ok
+
+pub returns-in_err-word_at-clause-bad : goal.returns-in_err-word_at-clause-bad
+returns-in_err-word_at-clause-bad c = let p = err_from_is_err_and c.from_residual.result c.from_residual.ensures.1 in
+    let b = c.in_err-word_at.ensures.bad in rw (p.1, p.2, b.0) (bad_flag c.args.words.now c.requires c.if-words-eq1.false b.1)
+
+pub returns-in_err-end_at-clause-bad : goal.returns-in_err-end_at-clause-bad
+returns-in_err-end_at-clause-bad c = let p = err_from_is_err_and c.from_residual-in_err-end_at.result c.from_residual-in_err-end_at.ensures.1 in
+    let b = c.in_err-end_at.ensures.bad in
+    rw (p.1, p.2, b.0) (bad_end c.args.words.now c.requires c.in_ok-word_at.ensures.ok b.1)

@@ -1,10 +1,10 @@
 use Rattle.std.proofs.Common.{sym, subst}
-use Rattle.un_commands.specs.declared.command.Command.TheVariants.{Check}
+use Rattle.un_top.specs.Behaviours.{of_check}
 use Rattle.un_top.specs.Runs.{RefusesText}
 use Rattle.un_top.proofs.Refused.{check_refused}
 use Rattle.un_top.proofs.produce.check_output.Goals as goal
 
 pub returns-in-Err-clause-refused : goal.returns-in-Err-clause-refused
 returns-in-Err-clause-refused c =
-    subst (RefusesText Check c.args.text.now) (sym c.status_by.ensures)
+    subst (RefusesText of_check c.args.text.now) (sym c.status_by.ensures)
     (check_refused c.args.text.now c.in-Err.refused c.requires.few c.in-Err.ensures.refused)

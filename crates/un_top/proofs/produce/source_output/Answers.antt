@@ -1,10 +1,10 @@
 use Rattle.std.proofs.Common.{sym, subst}
-use Rattle.un_commands.specs.declared.command.Command.TheVariants.{Run}
+use Rattle.un_top.specs.Behaviours.{of_run}
 use Rattle.un_top.specs.Runs.{RefusesText}
 use Rattle.un_top.proofs.Refused.{source_refused}
 use Rattle.un_top.proofs.produce.source_output.Goals as goal
 
 pub returns-in-Err-clause-refused : goal.returns-in-Err-clause-refused
 returns-in-Err-clause-refused c =
-    subst (RefusesText Run c.args.text.now) (sym c.status_by.ensures)
+    subst (RefusesText of_run c.args.text.now) (sym c.status_by.ensures)
     (source_refused c.args.text.now c.in-Err.refused c.requires.few c.in-Err.ensures.refused)

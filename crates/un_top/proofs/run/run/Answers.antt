@@ -1,9 +1,10 @@
+use Rattle.std.proofs.Common.{Some}
 use Rattle.un_outside.specs.Causes.{Rose}
-use Rattle.un_outside.specs.declared.status.Status.TheVariants.{TextFault, Usage, ReadFault, BadReport}
+use Rattle.un_outside.specs.declared.status.Status.TheVariants.{TextFault, Usage, ReadFault}
 use Rattle.un_top.specs.Runs.{RefusesWords}
-use Rattle.un_top.proofs.Answered.{only_of, refusal_at, from_before, answers_fault, answers_accepted, out_after, kept_and_answered}
-use Rattle.un_top.proofs.Answered.{when_written, status_of, line_written, line_whole}
-use Rattle.un_top.proofs.Completed.{answers_bad, completes}
+use Rattle.un_top.proofs.Answered.{only_of, refusal_at, from_before, answers_fault, answers_late, late_is, answers_accepted, out_after}
+use Rattle.un_top.proofs.Answered.{kept_and_answered, when_whole, made_over, made_well, status_of, line_written, line_whole}
+use Rattle.un_top.proofs.Completed.{completes}
 use Rattle.un_top.proofs.run.run.Goals as goal
 
 pub returns-clause-out : goal.returns-clause-out
@@ -24,7 +25,7 @@ returns-clause-kept g c =
     (g.K.Sink.held c.finish-status.new.out)
     (only_of c.args.words.now (g.S.Source.left c.args.src.now) (g.S.Source.faults c.args.src.now)
     (g.S.Source.faults c.produce-outcome.new.src) c.produce-outcome.result c.produce-outcome.ensures.refused) f.err f.kept p.written
-    p.answers f.wrote).0
+    p.ends f.wrote).0
 
 pub returns-clause-answers : goal.returns-clause-answers
 returns-clause-answers g c =
@@ -34,14 +35,31 @@ returns-clause-answers g c =
     (g.K.Sink.held c.finish-status.new.out)
     (only_of c.args.words.now (g.S.Source.left c.args.src.now) (g.S.Source.faults c.args.src.now)
     (g.S.Source.faults c.produce-outcome.new.src) c.produce-outcome.result c.produce-outcome.ensures.refused) f.err f.kept p.written
-    p.answers f.wrote).1
+    p.ends f.wrote).1
+
+pub returns-clause-made : goal.returns-clause-made
+returns-clause-made g c = λ command asked text.
+    let f = c.finish-status.ensures in
+    let p = c.produce-outcome.ensures in
+    out_after c.args.words.now (Some text) c.produce-outcome.result c.finish-status.result (g.K.Sink.held c.args.out.now)
+    (g.K.Sink.held c.finish-status.new.out)
+    (only_of c.args.words.now (g.S.Source.left c.args.src.now) (g.S.Source.faults c.args.src.now)
+    (g.S.Source.faults c.produce-outcome.new.src) c.produce-outcome.result c.produce-outcome.ensures.refused) f.err f.kept p.written
+    f.wrote (made_over c.args.words.now c.produce-outcome.result text (p.made command asked))
+
+pub returns-clause-made_well : goal.returns-clause-made_well
+returns-clause-made_well g c = λ command asked.
+    let f = c.finish-status.ensures in
+    let p = c.produce-outcome.ensures in
+    made_well c.args.words.now command c.produce-outcome.result c.finish-status.result (g.K.Sink.held c.args.out.now)
+    (g.K.Sink.held c.finish-status.new.out) asked (p.made command asked) (p.short command asked) f.err f.wrote
 
 pub returns-clause-read_whole : goal.returns-clause-read_whole
-returns-clause-read_whole g c = λ command asked reads written.
-    when_written c.produce-outcome.result c.finish-status.result _ (only_of c.args.words.now (g.S.Source.left c.args.src.now)
+returns-clause-read_whole g c = λ command asked whole.
+    when_whole c.produce-outcome.result c.finish-status.result _ (only_of c.args.words.now (g.S.Source.left c.args.src.now)
     (g.S.Source.faults c.args.src.now) (g.S.Source.faults c.produce-outcome.new.src) c.produce-outcome.result
     c.produce-outcome.ensures.refused)
-    c.finish-status.ensures.err (c.produce-outcome.ensures.end command asked reads) written
+    c.finish-status.ensures.err (c.produce-outcome.ensures.end command asked) (c.produce-outcome.ensures.end_late command asked) whole
 
 pub returns-clause-left : goal.returns-clause-left
 returns-clause-left g c = c.produce-outcome.ensures.left
@@ -84,13 +102,12 @@ returns-clause-fault g c = λ line code e.
     (g.K.Sink.held c.finish-status.new.out) c.finish-status.ensures.err
     c.produce-outcome.ensures.written c.finish-status.ensures.wrote e (λ h. h) (λ h. cc h))
 
-pub returns-clause-bad : goal.returns-clause-bad
-returns-clause-bad g c = λ line e.
-    refusal_at c.produce-outcome.result (BadReport line) (RefusesWords c.args.words.now (g.S.Source.left c.args.src.now)
-    (g.S.Source.faults c.args.src.now) (g.S.Source.faults c.produce-outcome.new.src)) c.produce-outcome.ensures.refused
-    (from_before c.produce-outcome.result c.finish-status.result (BadReport line) (g.K.Sink.held c.args.out.now)
-    (g.K.Sink.held c.finish-status.new.out) c.finish-status.ensures.err
-    c.produce-outcome.ensures.written c.finish-status.ensures.wrote e (λ h. h) (λ h. cc h))
+pub returns-clause-late : goal.returns-clause-late
+returns-clause-late g c = λ late.
+    late_is c.args.words.now (g.S.Source.left c.args.src.now) (g.S.Source.faults c.args.src.now)
+    (g.S.Source.faults c.produce-outcome.new.src) c.produce-outcome.result c.finish-status.result (g.K.Sink.held c.args.out.now)
+    (g.K.Sink.held c.finish-status.new.out) c.produce-outcome.ensures.refused c.finish-status.ensures.err
+    c.produce-outcome.ensures.written c.finish-status.ensures.wrote late
 
 pub returns-clause-exactly_fault : goal.returns-clause-exactly_fault
 returns-clause-exactly_fault g c =
@@ -99,9 +116,9 @@ returns-clause-exactly_fault g c =
     c.produce-outcome.result c.finish-status.result c.produce-outcome.ensures.refused c.finish-status.ensures.err
     c.produce-outcome.ensures.ok
 
-pub returns-clause-exactly_bad : goal.returns-clause-exactly_bad
-returns-clause-exactly_bad g c =
-    answers_bad c.args.words.now (g.S.Source.left c.args.src.now) (g.S.Source.faults c.args.src.now) (g.S.Source.faults
+pub returns-clause-exactly_late : goal.returns-clause-exactly_late
+returns-clause-exactly_late g c =
+    answers_late c.args.words.now (g.S.Source.left c.args.src.now) (g.S.Source.faults c.args.src.now) (g.S.Source.faults
     c.produce-outcome.new.src)
     c.produce-outcome.result c.finish-status.result c.produce-outcome.ensures.refused c.finish-status.ensures.err
     c.produce-outcome.ensures.ok
@@ -115,8 +132,8 @@ returns-clause-complete g c =
     completes c.args.words.now (g.S.Source.left c.args.src.now) c.finish-status.result (g.K.Sink.held c.args.out.now) (g.K.Sink.held
     c.finish-status.new.out)
     (Rose (g.S.Source.faults c.args.src.now) (g.S.Source.faults c.produce-outcome.new.src))
-    (Rose (g.K.Sink.faults c.args.out.now) (g.K.Sink.faults c.finish-status.new.out)) (returns-clause-answers g c)
-    (returns-clause-usage g c) (returns-clause-fault g c) (returns-clause-bad g c) (returns-clause-read g c)
+    (Rose (g.K.Sink.faults c.args.out.now) (g.K.Sink.faults c.finish-status.new.out))
+    (returns-clause-usage g c) (returns-clause-fault g c) (returns-clause-late g c) (returns-clause-read g c)
     c.finish-status.ensures.fault (returns-clause-out g c)
 
 pub returns-clause-write : goal.returns-clause-write

@@ -1,0 +1,212 @@
+-- What is so of every command's behaviour: a text has one fault at most, and with it nothing else; one late answer at most, and with it no
+-- output; a good text has neither; and an output ends a run as it should.
+use Rattle.std.proofs.Common.{ℕ, ◌≡◌, ◌<◌, ◌≤◌, inl, inr, List, length, refl, subst, sym, ap, ◌∙◌, arith}
+use Rattle.std.specs.declared.result.Result.{Result}
+use Rattle.std.specs.declared.result.Result.TheVariants.{Ok, Err}
+use Rattle.un_baseline.specs.RoomyOptions.{AreRoomyFor}
+use Rattle.un_commands.specs.Alloc.{model_options}
+use Rattle.un_commands.specs.declared.command.ReadingCommand.{ReadingCommand}
+use Rattle.un_commands.specs.declared.command.ReadingCommand.TheVariants.{Alloc, Run, RunCode, Check}
+use Rattle.un_commands.specs.declared.command.SearchOptions.{SearchOptions}
+use Rattle.un_faults.specs.declared.fault.Fault.TheVariants.{TooMany}
+use Rattle.un_ir.specs.declared.function.Function.{Function}
+use Rattle.un_isa.specs.Hexagon.{HEXAGON}
+use Rattle.un_model.specs.declared.model.Model.{Model}
+use Rattle.un_model.specs.declared.model.Options.{Options}
+use Rattle.un_outside.specs.declared.status.NoCause.{NoCause}
+use Rattle.un_outside.specs.declared.status.Status.{Status}
+use Rattle.un_outside.specs.declared.status.Status.TheVariants.{Done, Infeasible, Spent, TextFault, Usage, ReadFault, WriteFault, NoMemory, No}
+use Rattle.un_outside.specs.declared.status.Status.TheVariants.{BadReport}
+use Rattle.un_reader.specs.Read.{IsRead, too_long}
+use Rattle.un_report.specs.declared.report.Answered.{Answered}
+use Rattle.un_report.specs.declared.report.Answered.TheVariants.{Code, Infeasible as NoSolution, Spent as Stopped}
+use Rattle.un_runs.proofs.OneAnswer.{one_source_line, one_code_line, good_source, good_code, source_run_good, code_run_good}
+use Rattle.un_runs.specs.Inputs.{first_part, second_part}
+use Rattle.un_runs.specs.Refusals.{IsBadSourceRun, IsBadCodeRun}
+use Rattle.un_top.specs.Behaviours.{Behaviour, behaviour_of, of_alloc, of_run, of_run_code, of_check, IsBadPart, IsPartFault, IsDone, IsSearched}
+use Rattle.un_top.specs.Behaviours.{IsChecked, EndsSearch, EndsCheck}
+use Rattle.un_top.specs.Checks.{IsBadCheck, told_status}
+use Rattle.un_top.specs.Reports.{IsReportOf, status_of}
+use Rattle.un_top.specs.Runs.{IsLate}
+use Rattle.un_top.specs.declared.limits.TheConstants.{INPUT}
+use Rattle.un_top.proofs.FaultLaws.{fault_unique, read_has_no_fault}
+use Rattle.un_top.proofs.GeneratedLaws.{code_there}
+use Rattle.un_top.proofs.ReportLines.{one_report_line, report_not_bad}
+
+pub record IsLawful (b : Behaviour) : Type 0 where
+  pub too_long : (text : List ℕ) → b.most < length text → b.Fault text 0 13
+  pub one_fault : (text : List ℕ) (l c line code : ℕ) → b.Fault text l c → b.Fault text line code → (l ≡ line) × (c ≡ code)
+  pub output_fault : (text : List ℕ) (status : Status) (out : List ℕ) (line code : ℕ) → b.Output text status out → b.Fault text line code → ⊥
+  pub late_fault : (text : List ℕ) (status : Status) (line code : ℕ) → b.Late text status → b.Fault text line code → ⊥
+  pub no_fault : (text : List ℕ) (line code : ℕ) → b.Faultless text → b.Fault text line code → ⊥
+  pub good_fault : (text : List ℕ) (line code : ℕ) → b.Good text → b.Fault text line code → ⊥
+  pub is_late : (text : List ℕ) (status : Status) → b.Late text status → IsLate status
+  pub one_late : (text : List ℕ) (s t : Status) → b.Late text s → b.Late text t → s ≡ t
+  pub output_late : (text : List ℕ) (status : Status) (out : List ℕ) (late : Status) → b.Output text status out → b.Late text late → ⊥
+  pub good_late : (text : List ℕ) (late : Status) → b.Good text → b.Late text late → ⊥
+  pub ends : (text : List ℕ) (status : Status) (out : List ℕ) → b.Output text status out → b.Ending status
+  pub well : (text : List ℕ) (status : Status) (out : List ℕ) → b.Output text status out → b.EndsWell text status
+  pub short : (text : List ℕ) → b.EndsWell text NoMemory
+
+-- ---- parts of inputs
+
+part_fault : (text : List ℕ) (l c line code : ℕ) → IsPartFault text l c → IsPartFault text line code → (l ≡ line) × (c ≡ code)
+part_fault text l c line code (inl a) (inl b) = (a.no_line ∙ sym b.no_line, a.too_many ∙ sym b.too_many)
+part_fault text l c line code (inl a) (inr b) = absurd (let long = a.long in let short = b.0 in omega (arith, long, short))
+part_fault text l c line code (inr a) (inl b) = absurd (let long = b.long in let short = a.0 in omega (arith, long, short))
+part_fault text l c line code (inr a) (inr b) = fault_unique (first_part text) l c line code a.1 b.1
+
+-- a function in the first part of a short input has no fault
+read_part : (text : List ℕ) (f : Function) (line code : ℕ) → length text ≤ INPUT → IsRead (first_part text) f → IsPartFault text line code → ⊥
+read_part text f line code few read (inl long) = let is_long = long.long in omega (arith, is_long, few)
+read_part text f line code few read (inr fault) = read_has_no_fault (first_part text) f line code read fault.1
+
+-- what is refused is a line of the second part
+bad_line : (bad : List ℕ → ℕ → Type 0) (text : List ℕ) (status : Status) → IsBadPart bad text status
+    → (line : ℕ) × (status ≡ BadReport line) × (length text ≤ INPUT) × bad text line
+bad_line bad text (BadReport line) h = (line, refl, h.0, h.1)
+bad_line bad text Done h = absurd h
+bad_line bad text Infeasible h = absurd h
+bad_line bad text Spent h = absurd h
+bad_line bad text (TextFault line code) h = absurd h
+bad_line bad text (Usage place) h = absurd h
+bad_line bad text ReadFault h = absurd h
+bad_line bad text WriteFault h = absurd h
+bad_line bad text NoMemory h = absurd h
+bad_line bad text (No cause) h = absurd h
+
+part_late : (bad : List ℕ → ℕ → Type 0) (text : List ℕ) (status : Status) → IsBadPart bad text status → IsLate status
+part_late bad text status h = let at = bad_line bad text status h in subst IsLate (sym at.1) tt
+
+one_part : (bad : List ℕ → ℕ → Type 0) → ((text : List ℕ) (m n : ℕ) → bad text m → bad text n → m ≡ n) → (text : List ℕ) (s t : Status)
+    → IsBadPart bad text s → IsBadPart bad text t → s ≡ t
+one_part bad one text s t h k =
+    let a = bad_line bad text s h in
+    let b = bad_line bad text t k in
+    a.1 ∙ (ap BadReport (one text a.0 b.0 a.3 b.3) ∙ sym b.1)
+
+-- ---- the report of a function
+
+search_ends : (status : Status) (a : Answered) → status ≡ status_of a → EndsSearch status
+search_ends status (Code cost bound code s) e = inl e
+search_ends status NoSolution e = inr (inl e)
+search_ends status Stopped e = inr (inr e)
+
+ends_searched : (status : Status) → EndsSearch status → IsSearched status
+ends_searched status (inl e) = subst IsSearched (sym e) tt
+ends_searched status (inr (inl e)) = subst IsSearched (sym e) tt
+ends_searched status (inr (inr e)) = subst IsSearched (sym e) tt
+
+-- where each name can be kept in a frame slot of its own there is code
+roomy_done : (o : Options) (nodes : ℕ) (text : List ℕ) (status : Status) (out : List ℕ) → IsReportOf HEXAGON o nodes text status out
+    → ((f : Function) → IsRead text f → AreRoomyFor f o) → IsDone status
+roomy_done o nodes text status out h roomy =
+    let f = h.function in
+    let m = h.model in
+    let options : m.options ≡ o = ap (λ (x : Model). x.options) h.is_model.is_model in
+    let r = h.found.report in
+    let room : AreRoomyFor f m.options = subst (λ (p : Options). AreRoomyFor f p) (sym options) (roomy f h.read) in
+    subst IsDone (sym (h.found.ends ∙ code_there f m h.is_model.ext.live nodes r.tree.nodes.items r.answer room h.found.is_search.answer)) tt
+
+alloc_lawful : (o : SearchOptions) → IsLawful (of_alloc o)
+alloc_lawful o = record {
+  too_long = λ text long. record { fault = TooMany; is = too_long long; coded = refl };
+  one_fault = fault_unique;
+  output_fault = λ text status out line code h f. read_has_no_fault text h.function line code h.read f;
+  late_fault = λ text status line code late f. late;
+  no_fault = λ text line code good f. read_has_no_fault text good.0 line code good.1 f;
+  good_fault = λ text line code good f. read_has_no_fault text good.0 line code good.1 f;
+  is_late = λ text status late. absurd late;
+  one_late = λ text s t a b. absurd a;
+  output_late = λ text status out late h l. l;
+  good_late = λ text late good l. l;
+  ends = λ text status out h. search_ends status h.found.report.answer h.found.ends;
+  well = λ text status out h. (
+    ends_searched status (search_ends status h.found.report.answer h.found.ends),
+    roomy_done (model_options o) o.nodes text status out h,
+  );
+  short = λ text. (tt, λ roomy. tt);
+}
+
+-- ---- what a function does from a start
+
+done_well : (status : Status) → status ≡ Done → IsDone status
+done_well status e = subst IsDone (sym e) tt
+
+run_lawful : IsLawful of_run
+run_lawful = record {
+  too_long = λ text long. inl (record { long = long; no_line = refl; too_many = refl });
+  one_fault = part_fault;
+  output_fault = λ text status out line code h. read_part text h.2.function line code h.1 h.2.read;
+  late_fault = λ text status line code late. (let at = bad_line IsBadSourceRun text status late in
+      read_part text at.3.function line code at.2 at.3.read);
+  no_fault = λ text line code good. read_part text good.1.0 line code good.0 good.1.1;
+  good_fault = λ text line code good. read_part text good.1.function line code good.0 good.1.read;
+  is_late = part_late IsBadSourceRun;
+  one_late = one_part IsBadSourceRun one_source_line;
+  output_late = λ text status out late h l. (let at = bad_line IsBadSourceRun text late l in
+      good_source text at.0 (source_run_good text out h.2) at.3);
+  good_late = λ text late good l. (let at = bad_line IsBadSourceRun text late l in good_source text at.0 good.1 at.3);
+  ends = λ text status out h. h.0;
+  well = λ text status out h. done_well status h.0;
+  short = λ text. tt;
+}
+
+-- ---- what code does from a start
+
+run_code_lawful : IsLawful of_run_code
+run_code_lawful = record {
+  too_long = λ text long. record { long = long; no_line = refl; too_many = refl };
+  one_fault = λ text l c line code a b. (a.no_line ∙ sym b.no_line, a.too_many ∙ sym b.too_many);
+  output_fault = λ text status out line code h f. (let long = f.long in let short = h.1 in omega (arith, long, short));
+  late_fault = λ text status line code late f. (let at = bad_line IsBadCodeRun text status late in
+      let long = f.long in let short = at.2 in omega (arith, long, short));
+  no_fault = λ text line code good f. (let long = f.long in omega (arith, long, good));
+  good_fault = λ text line code good f. (let long = f.long in let short = good.0 in omega (arith, long, short));
+  is_late = part_late IsBadCodeRun;
+  one_late = one_part IsBadCodeRun one_code_line;
+  output_late = λ text status out late h l. (let at = bad_line IsBadCodeRun text late l in
+      good_code text at.0 (code_run_good text out h.2) at.3);
+  good_late = λ text late good l. (let at = bad_line IsBadCodeRun text late l in good_code text at.0 good.1 at.3);
+  ends = λ text status out h. h.0;
+  well = λ text status out h. done_well status h.0;
+  short = λ text. tt;
+}
+
+-- ---- the answer to a report
+
+check_ends : (status : Status) (told : Result (Unit {0}) NoCause) → status ≡ told_status told → EndsCheck status
+check_ends status (Ok all) e = inl e
+check_ends status (Err cause) e = inr (cause, e)
+
+ends_checked : (status : Status) → EndsCheck status → IsChecked status
+ends_checked status (inl e) = subst IsChecked (sym e) tt
+ends_checked status (inr refused) = subst IsChecked (sym refused.1) tt
+
+check_lawful : IsLawful of_check
+check_lawful = record {
+  too_long = λ text long. inl (record { long = long; no_line = refl; too_many = refl });
+  one_fault = part_fault;
+  output_fault = λ text status out line code h. read_part text h.1.function line code h.0 h.1.read;
+  late_fault = λ text status line code late. (let at = bad_line IsBadCheck text status late in
+      read_part text at.3.function line code at.2 at.3.read);
+  no_fault = λ text line code good. read_part text good.1.0 line code good.0 good.1.1;
+  good_fault = λ text line code good. read_part text good.1.function line code good.0 good.1.read;
+  is_late = part_late IsBadCheck;
+  one_late = one_part IsBadCheck (λ text m n a b. one_report_line (second_part text) m n a.bad b.bad);
+  output_late = λ text status out late h l. (let at = bad_line IsBadCheck text late l in
+      let own = h.1.check.answered in report_not_bad (second_part text) own.report at.0 own.reported at.3.bad);
+  good_late = λ text late good l. (let at = bad_line IsBadCheck text late l in
+      report_not_bad (second_part text) good.1.report at.0 good.1.reported at.3.bad);
+  ends = λ text status out h. check_ends status h.1.check.told h.1.check.ends;
+  well = λ text status out h. ends_checked status (check_ends status h.1.check.told h.1.check.ends);
+  short = λ text. tt;
+}
+
+-- ---- all commands over an input
+
+pub lawful : (command : ReadingCommand) → IsLawful (behaviour_of command)
+lawful (Alloc o) = alloc_lawful o
+lawful Run = run_lawful
+lawful RunCode = run_code_lawful
+lawful Check = check_lawful

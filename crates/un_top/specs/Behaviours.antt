@@ -1,0 +1,177 @@
+-- What each command does: a record for each.
+use Rattle.std.specs.Prelude.{ℕ, ◌≡◌, ◌<◌, ◌≤◌, ◌⊎◌, length, List}
+use Rattle.un_baseline.specs.RoomyOptions.{AreRoomyFor}
+use Rattle.un_commands.specs.Alloc.{model_options}
+use Rattle.un_commands.specs.declared.command.Command.{Command}
+use Rattle.un_commands.specs.declared.command.Command.TheVariants.{Reads, Makes}
+use Rattle.un_commands.specs.declared.command.MakingCommand.{MakingCommand}
+use Rattle.un_commands.specs.declared.command.MakingCommand.TheVariants.{Generate, GenerateAlloc}
+use Rattle.un_commands.specs.declared.command.ReadingCommand.{ReadingCommand}
+use Rattle.un_commands.specs.declared.command.ReadingCommand.TheVariants.{Alloc, Run, RunCode, Check}
+use Rattle.un_commands.specs.declared.command.SearchOptions.{SearchOptions}
+use Rattle.un_ir.specs.declared.function.Function.{Function}
+use Rattle.un_isa.specs.Hexagon.{HEXAGON}
+use Rattle.un_outside.specs.declared.status.NoCause.{NoCause}
+use Rattle.un_outside.specs.declared.status.Status.{Status}
+use Rattle.un_outside.specs.declared.status.Status.TheVariants.{Done, Infeasible, Spent, NoMemory, No, BadReport}
+use Rattle.un_reader.specs.Read.{IsRead}
+use Rattle.un_reader.specs.declared.limits.TheConstants.{TEXT}
+use Rattle.un_runs.specs.Grammars.{IsSourceInput, IsCodeInput}
+use Rattle.un_runs.specs.Inputs.{first_part}
+use Rattle.un_runs.specs.Refusals.{IsFaultOf as IsFault, IsBadSourceRun, IsBadCodeRun}
+use Rattle.un_runs.specs.Shown.{IsSourceRun, IsCodeRun, IsGeneratedText}
+use Rattle.un_top.specs.Checks.{IsCheck, IsCheckInput, IsBadCheck}
+use Rattle.un_top.specs.Generated.{IsGeneratedReport}
+use Rattle.un_top.specs.Reports.{IsReportOf}
+use Rattle.un_top.specs.declared.limits.TheConstants.{INPUT}
+
+-- what a command does with an input
+pub record Behaviour : Type 1 where
+  -- how many bytes the input may have
+  pub most : ℕ
+  -- what is put out over a text, and how a run ends that writes it whole
+  pub Output : List ℕ → Status → List ℕ → Type 0
+  -- how such runs end
+  pub Ending : Status → Type 0
+  -- the line and the code of the fault of a text
+  pub Fault : List ℕ → ℕ → ℕ → Type 0
+  -- a text has none
+  pub Faultless : List ℕ → Type 0
+  -- the answer where there is none, but what stands behind the function is refused
+  pub Late : List ℕ → Status → Type 0
+  -- a text is in its grammars and within its limits
+  pub Good : List ℕ → Type 0
+  -- how a run over a good text ends where nothing outside fails
+  pub EndsWell : List ℕ → Status → Type 0
+
+-- ---- inputs in two parts
+
+-- an input of too many bytes
+pub record IsTooLong (text : List ℕ) (line code : ℕ) : Type 0 where
+  pub long : INPUT < length text
+  pub no_line : line ≡ 0
+  pub too_many : code ≡ 13
+
+-- the first fault of a function in the first part of an input, or of its length
+abbrev pub IsPartFault : List ℕ → ℕ → ℕ → Type 0
+IsPartFault text line code = IsTooLong text line code ⊎ ((length text ≤ INPUT) × IsFault (first_part text) line code)
+
+-- there is none
+abbrev pub HasNoPartFault : List ℕ → Type 0
+HasNoPartFault text = (length text ≤ INPUT) × ((f : Function) × IsRead (first_part text) f)
+
+-- a line of the second part is refused, of an input within the limit
+abbrev pub IsBadPart : (List ℕ → ℕ → Type 0) → List ℕ → Status → Type 0
+IsBadPart bad text (BadReport line) = (length text ≤ INPUT) × bad text line
+IsBadPart bad text _ = ⊥
+
+-- nothing is refused behind a function
+abbrev pub NoneLate : List ℕ → Status → Type 0
+NoneLate text status = ⊥
+
+-- ---- how runs end
+
+-- the output was written whole, or there was no memory for it
+abbrev pub IsDone : Status → Type 0
+IsDone Done = Unit {0}
+IsDone NoMemory = Unit {0}
+IsDone _ = ⊥
+
+-- or a search found no code
+abbrev pub IsSearched : Status → Type 0
+IsSearched Infeasible = Unit {0}
+IsSearched Spent = Unit {0}
+IsSearched status = IsDone status
+
+-- or a report was not accepted
+abbrev pub IsChecked : Status → Type 0
+IsChecked (No cause) = Unit {0}
+IsChecked status = IsDone status
+
+abbrev pub EndsDone : Status → Type 0
+EndsDone status = status ≡ Done
+
+abbrev pub EndsSearch : Status → Type 0
+EndsSearch status = (status ≡ Done) ⊎ ((status ≡ Infeasible) ⊎ (status ≡ Spent))
+
+abbrev pub EndsCheck : Status → Type 0
+EndsCheck status = (status ≡ Done) ⊎ ((cause : NoCause) × (status ≡ No cause))
+
+-- ---- the commands over an input
+
+-- the report of a function; a search finds code where each name can be kept in a frame slot of its own
+abbrev pub of_alloc : SearchOptions → Behaviour
+of_alloc o = record {
+  most = TEXT;
+  Output = λ text status out. IsReportOf HEXAGON (model_options o) o.nodes text status out;
+  Ending = EndsSearch;
+  Fault = IsFault;
+  Faultless = λ text. (f : Function) × IsRead text f;
+  Late = NoneLate;
+  Good = λ text. (f : Function) × IsRead text f;
+  EndsWell = λ text status. IsSearched status × (((f : Function) → IsRead text f → AreRoomyFor f (model_options o)) → IsDone status);
+}
+
+-- what a function does from a start
+abbrev pub of_run : Behaviour
+of_run = record {
+  most = INPUT;
+  Output = λ text status out. (status ≡ Done) × (length text ≤ INPUT) × IsSourceRun text out;
+  Ending = EndsDone;
+  Fault = IsPartFault;
+  Faultless = HasNoPartFault;
+  Late = IsBadPart IsBadSourceRun;
+  Good = λ text. (length text ≤ INPUT) × IsSourceInput text;
+  EndsWell = λ text status. IsDone status;
+}
+
+-- what code does from a start
+abbrev pub of_run_code : Behaviour
+of_run_code = record {
+  most = INPUT;
+  Output = λ text status out. (status ≡ Done) × (length text ≤ INPUT) × IsCodeRun text out;
+  Ending = EndsDone;
+  Fault = IsTooLong;
+  Faultless = λ text. length text ≤ INPUT;
+  Late = IsBadPart IsBadCodeRun;
+  Good = λ text. (length text ≤ INPUT) × IsCodeInput text;
+  EndsWell = λ text status. IsDone status;
+}
+
+-- the answer to a report
+abbrev pub of_check : Behaviour
+of_check = record {
+  most = INPUT;
+  Output = λ text status out. (length text ≤ INPUT) × IsCheck text status out;
+  Ending = EndsCheck;
+  Fault = IsPartFault;
+  Faultless = HasNoPartFault;
+  Late = IsBadPart IsBadCheck;
+  Good = λ text. (length text ≤ INPUT) × IsCheckInput text;
+  EndsWell = λ text status. IsChecked status;
+}
+
+abbrev pub behaviour_of : ReadingCommand → Behaviour
+behaviour_of (Alloc o) = of_alloc o
+behaviour_of Run = of_run
+behaviour_of RunCode = of_run_code
+behaviour_of Check = of_check
+
+-- ---- the commands without one
+
+-- what such a command puts out, and how a run ends that writes it whole
+abbrev pub IsMade : MakingCommand → Status → List ℕ → Type 0
+IsMade (Generate seed size) status out = (status ≡ Done) × IsGeneratedText seed size out
+IsMade (GenerateAlloc seed size nodes) status out = IsGeneratedReport seed size nodes status out
+
+-- ---- all commands
+
+-- what a command puts out, over a text where it reads one, and how a run ends that writes it whole
+abbrev pub IsOutput : Command → List ℕ → Status → List ℕ → Type 0
+IsOutput (Reads command) text status out = (behaviour_of command).Output text status out
+IsOutput (Makes command) text status out = IsMade command status out
+
+-- how such runs end
+abbrev pub Ends : Command → Status → Type 0
+Ends (Reads command) status = (behaviour_of command).Ending status
+Ends (Makes command) status = EndsDone status
