@@ -2,7 +2,6 @@
 
 use crate::blocks::{Section, Sheet, operation};
 use crate::names::{Meaning, meaning_of, put_meaning};
-use crate::pieces::place_width;
 use std::alloc::Global;
 use un_base::ids::{OpId, TempId};
 use un_base::memory_error::NoMemory;
@@ -29,12 +28,16 @@ pub struct Bar {
     pub carried: Meaning,
     /// How what it carries came there.
     pub role: Role,
+    /// The operation that gives it, by its number in the function.
+    pub op: OpId,
     /// The number of its register or slot: slots from 36 on.
     pub reg: u32,
     /// Its first cycle: that of its definer, 0 for a value at the block's start.
     pub from: u32,
     /// Its last cycle, inclusive.
     pub last: u32,
+    /// Whether it is what the caller left in this register, where it stays for the whole block.
+    pub is_untouched: bool,
     /// How many bytes its label has.
     pub width: usize,
 }
@@ -52,11 +55,17 @@ pub struct Column {
 fn mark(role: Role) -> &'static [u8] {
     match role {
         Role::Given | Role::Saved => b"",
-        Role::Spilled => b"spill ",
-        Role::Reloaded => b"reload ",
-        Role::Moved => b"move ",
+        Role::Spilled => b"S ",
+        Role::Reloaded => b"R ",
+        Role::Moved => b"M ",
     }
 }
+
+/// What the marks and names in a drawing mean.
+pub static KEY: &[u8] = b"\
+key: %a a value of that name, r31 under a register or slot what the caller left in r31, * a call's result without a name; S it is spilled
+     there, R reloaded, M moved there; | it stays, . nothing that is read later; s0 the frame's slot 0
+";
 
 /// Appends what stands where a bar begins.
 pub fn put_label(out: &mut Vec<u8>, sheet: &Sheet<'_>, bar: &Bar) -> Result<(), NoMemory> {
@@ -113,16 +122,18 @@ fn bar_of(
     let mut bar = Bar {
         carried,
         role: role_of(section, range, carried),
+        op: range.op,
         reg: range.reg,
         from: range.from,
         last: range.last,
+        is_untouched: is_untouched(section, range, carried),
         width: 0,
     };
     bar.width = label_width(alloc, sheet, &bar)?;
     Ok(bar)
 }
 
-/// The bars of a block, but for what the caller left in registers that the block does not touch.
+/// The bars of a block.
 pub fn bars(
     alloc: Global,
     sheet: &Sheet<'_>,
@@ -131,9 +142,8 @@ pub fn bars(
     let mut bars = Items::new(alloc);
     let mut temp: u32 = 0;
     for range in sheet.plan.ranges.as_slice() {
-        let carried = meaning_of(sheet, section, TempId(temp));
-        let own = range.active && range.block.0 == section.number;
-        if own && !is_untouched(section, range, carried) {
+        if range.active && range.block.0 == section.number {
+            let carried = meaning_of(sheet, section, TempId(temp));
             bars.push(bar_of(alloc, sheet, section, range, carried)?)?;
         }
         temp = temp.saturating_add(1);
@@ -141,28 +151,50 @@ pub fn bars(
     Ok(bars)
 }
 
-/// How many bytes a label of a register or slot has at most, 0 where it is not in use.
-fn widest(bars: &[Bar], reg: u32) -> usize {
-    let mut width = 0;
+/// Notes for each register and slot how wide the bars in it are. A register that is not touched is not in use.
+fn note(widths: &mut [usize], bars: &[Bar]) {
     for bar in bars {
-        if bar.reg == reg {
-            width = bar.width.max(width);
+        let reg = bar.reg as usize;
+        if !bar.is_untouched && reg < widths.len() {
+            widths[reg] = bar.width.max(widths[reg]);
         }
     }
-    width
 }
 
-/// The registers and slots in use, rising.
-pub fn columns(alloc: Global, bars: &[Bar]) -> Result<Items<Column>, NoMemory> {
+/// How wide the bars of all blocks are in each register and slot, 0 where it is not in use.
+fn widths(
+    alloc: Global,
+    sheet: &Sheet<'_>,
+    sections: &[Section<'_>],
+) -> Result<Vec<usize>, NoMemory> {
+    let mut widths = [0; (FIRST_SLOT + SLOTS) as usize].to_vec(alloc)?;
+    for section in sections {
+        let bars = bars(alloc, sheet, section)?;
+        note(widths.as_mut_slice(), bars.as_slice());
+    }
+    Ok(widths)
+}
+
+/// How many bytes stand above a column at most.
+const NAME: usize = 3;
+
+/// The registers and slots in use in some block, rising: each block is drawn in all of them.
+pub fn columns(
+    alloc: Global,
+    sheet: &Sheet<'_>,
+    sections: &[Section<'_>],
+) -> Result<Items<Column>, NoMemory> {
+    let widths = widths(alloc, sheet, sections)?;
     let mut columns = Items::new(alloc);
-    for reg in 0..FIRST_SLOT + SLOTS {
-        let width = widest(bars, reg);
-        if width > 0 {
+    let mut reg: u32 = 0;
+    for width in widths.as_slice() {
+        if *width > 0 {
             columns.push(Column {
                 reg,
-                width: width.max(place_width(reg)),
+                width: (*width).max(NAME),
             })?;
         }
+        reg = reg.saturating_add(1);
     }
     Ok(columns)
 }

@@ -16,6 +16,10 @@ use un_packet::code::{CodeBlock, Packet};
 /// A solution with all that is drawn of it.
 #[derive(Clone, Copy)]
 pub struct Sheet<'a> {
+    /// The name of the function.
+    pub name: &'a Name,
+    /// The text of the function, as the printer writes it.
+    pub source: &'a [u8],
     /// The names of the function with their kinds, by number.
     pub names: &'a [(Name, Kind)],
     /// The function's model.

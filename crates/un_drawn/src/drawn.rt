@@ -11,6 +11,7 @@ use crate::table::put_tables;
 use std::alloc::Global;
 use un_base::memory_error::NoMemory;
 use un_ir::function::Function;
+use un_ir::print::print_function;
 use un_isa::reg_set::saved_registers;
 use un_model::model::{Model, Solution};
 use un_model::placement::schedule;
@@ -39,7 +40,7 @@ fn put_sheet(
 ) -> Result<(), NoMemory> {
     match form {
         Form::Tables => put_tables(alloc, out, sheet, sections),
-        Form::Drawing => put_drawing(alloc, out, sheet, sections),
+        Form::Drawing => put_drawing(alloc, out, sheet, sections, given),
         Form::Words => put_explained(alloc, out, sheet, sections, given),
     }
 }
@@ -58,7 +59,10 @@ fn put_coded(
     let plan = schedule(alloc, m, s)?;
     let saved = saved_registers(alloc, &m.ext.table)?;
     let sections = sections(alloc, m, s.values.as_slice())?;
+    let source = print_function(alloc, f)?;
     let sheet = Sheet {
+        name: &f.name,
+        source: source.as_slice(),
         names: f.names.as_slice(),
         m,
         plan: &plan,

@@ -4,14 +4,20 @@
 
 pub mod bars;
 pub mod blocks;
+pub mod cause;
 pub mod counts;
+pub mod crossing;
 pub mod drawn;
 pub mod explained;
 pub mod given;
 pub mod held;
-pub mod least;
 pub mod names;
+pub mod operations;
+pub mod panels;
 pub mod pieces;
+pub mod reach;
+pub mod source;
 pub mod spent;
 pub mod svg;
 pub mod table;
+pub mod waits;

@@ -69,14 +69,27 @@ pub fn meaning_of(sheet: &Sheet<'_>, section: &Section<'_>, temp: TempId) -> Mea
     carried(sheet, section, temp).unwrap_or(Meaning::Unnamed)
 }
 
-/// Appends what a value is.
+/// Appends what a value is, in few bytes.
 pub fn put_meaning(out: &mut Vec<u8>, sheet: &Sheet<'_>, meaning: Meaning) -> Result<(), NoMemory> {
     match meaning {
         Meaning::Named(name) => put_name(out, sheet.names, name),
-        Meaning::Saved(reg) => {
-            put_text(out, b"saved ")?;
-            put_place(out, reg)
+        Meaning::Saved(reg) => put_place(out, reg),
+        Meaning::Unnamed => put_text(out, b"*"),
+    }
+}
+
+/// Appends what a value is, in words.
+pub fn put_meaning_in_words(
+    out: &mut Vec<u8>,
+    sheet: &Sheet<'_>,
+    meaning: Meaning,
+) -> Result<(), NoMemory> {
+    match meaning {
+        Meaning::Named(_) => put_meaning(out, sheet, meaning),
+        Meaning::Saved(_) => {
+            put_text(out, b"the saved ")?;
+            put_meaning(out, sheet, meaning)
         }
-        Meaning::Unnamed => put_text(out, b"result"),
+        Meaning::Unnamed => put_text(out, b"a call's result"),
     }
 }

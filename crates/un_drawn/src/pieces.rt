@@ -41,14 +41,21 @@ pub fn put_place(out: &mut Vec<u8>, reg: u32) -> Result<(), NoMemory> {
     put_number(out, u64::from(reg.saturating_sub(first)))
 }
 
-/// How many bytes `put_place` appends at most.
-pub fn place_width(reg: u32) -> usize {
-    if reg < FIRST_SLOT { 3 } else { 6 }
+/// Appends a register, or a frame slot with its number, as it stands above a column: in three bytes at most.
+pub fn put_column_name(out: &mut Vec<u8>, reg: u32) -> Result<(), NoMemory> {
+    match space_of(reg) {
+        Space::M => {
+            put_text(out, b"s")?;
+            put_number(out, u64::from(reg.saturating_sub(FIRST_SLOT)))
+        }
+        _ => put_place(out, reg),
+    }
 }
 
-/// Appends what share of a whole a part is, in hundredths with one place behind the point.
+/// Appends what share of a whole a part is, in hundredths with one place behind the point, rounded.
 pub fn put_share(out: &mut Vec<u8>, part: u64, whole: u64) -> Result<(), NoMemory> {
-    let share = part.saturating_mul(1000) / whole.max(1);
+    let whole = whole.max(1);
+    let share = part.saturating_mul(1000).saturating_add(whole / 2) / whole;
     put_number(out, share / 10)?;
     put_text(out, b".")?;
     put_number(out, share % 10)?;

@@ -1,9 +1,11 @@
 //! A solution as a drawing: registers and slots across, cycles down, a rectangle for each live range.
 
 use crate::bars::{Bar, Column, Role, bars, columns, put_label};
-use crate::blocks::{Section, Sheet, packet};
-use crate::held::least_packets;
-use crate::pieces::{put_numbers, put_place, put_texts};
+use crate::blocks::{Section, Sheet, packet, whole_cost};
+use crate::cause::least_packets;
+use crate::given::Given;
+use crate::operations::put_operation;
+use crate::pieces::{put_column_name, put_numbers, put_place, put_texts};
 use crate::table::put_head;
 use std::alloc::Global;
 use un_base::memory_error::NoMemory;
@@ -25,10 +27,16 @@ const HEAD: u32 = 52;
 /// How much is left free below a block.
 const GAP: u32 = 28;
 
+/// How high what stands above all blocks is: a line of what is drawn, and a line of what the colours mean.
+const TITLE: u32 = 64;
+
+/// How wide a colour with its meaning is.
+const COLOUR: u32 = 150;
+
 /// How the parts of a drawing look.
 static STYLE: &[u8] = b"\
 <style>
-text { font: 13px 'DejaVu Sans Mono', monospace; fill: #222 }
+text { font: 13px 'DejaVu Sans Mono', monospace; fill: #222; pointer-events: none }
 .head { font-weight: bold }
 .small { fill: #666 }
 .cycle { stroke: #ddd }
@@ -76,6 +84,15 @@ fn look(role: Role) -> &'static [u8] {
     }
 }
 
+/// What the colours mean.
+static COLOURS: [(&[u8], &[u8]); 5] = [
+    (b"given", b"a value"),
+    (b"saved", b"the caller's"),
+    (b"spill", b"spilled"),
+    (b"reload", b"reloaded"),
+    (b"move", b"moved"),
+];
+
 /// Appends the beginning of a text at a place.
 fn put_text_at(out: &mut Vec<u8>, class: &[u8], x: u32, y: u32) -> Result<(), NoMemory> {
     put_texts(out, &[b"<text class=\"", class])?;
@@ -86,9 +103,56 @@ fn put_text_at(out: &mut Vec<u8>, class: &[u8], x: u32, y: u32) -> Result<(), No
     put_text(out, b"\">")
 }
 
-/// Appends the rectangle of a bar in a column that lies at `x`.
+/// Appends the beginning of a rectangle of a class.
 fn put_rectangle(
     out: &mut Vec<u8>,
+    class: &[u8],
+    x: u32,
+    y: u32,
+    width: u32,
+    height: u32,
+) -> Result<(), NoMemory> {
+    put_texts(out, &[b"<rect class=\"", class])?;
+    put_numbers(
+        out,
+        &[
+            (b"\" x=\"", u64::from(x)),
+            (b"\" y=\"", u64::from(y)),
+            (b"\" width=\"", u64::from(width)),
+            (b"\" height=\"", u64::from(height)),
+        ],
+    )?;
+    put_text(out, b"\" rx=\"3\">")
+}
+
+/// Appends what is shown where a bar is pointed at: the operation that gives its value, its register or slot, and its cycles.
+fn put_pointed(
+    out: &mut Vec<u8>,
+    sheet: &Sheet<'_>,
+    section: &Section<'_>,
+    bar: &Bar,
+) -> Result<(), NoMemory> {
+    put_text(out, b"<title>")?;
+    put_label(out, sheet, bar)?;
+    put_text(out, b" in ")?;
+    put_place(out, bar.reg)?;
+    put_numbers(
+        out,
+        &[
+            (b", cycles ", u64::from(bar.from)),
+            (b" to ", u64::from(bar.last)),
+        ],
+    )?;
+    put_text(out, b": ")?;
+    put_operation(out, sheet, section, bar.op.0.saturating_sub(section.first))?;
+    put_text(out, b"</title>")
+}
+
+/// Appends a bar in a column that lies at `x`, with its label.
+fn put_bar(
+    out: &mut Vec<u8>,
+    sheet: &Sheet<'_>,
+    section: &Section<'_>,
     bar: &Bar,
     top: u32,
     x: u32,
@@ -96,31 +160,11 @@ fn put_rectangle(
 ) -> Result<(), NoMemory> {
     let cycles = bar.last.saturating_sub(bar.from).saturating_add(1);
     let height = cycles.saturating_mul(ROW).saturating_sub(2);
-    put_texts(out, &[b"<rect class=\"", look(bar.role)])?;
-    put_numbers(
-        out,
-        &[
-            (b"\" x=\"", u64::from(x)),
-            (b"\" y=\"", u64::from(row_of(top, bar.from))),
-            (b"\" width=\"", u64::from(width.saturating_sub(4))),
-            (b"\" height=\"", u64::from(height)),
-        ],
-    )?;
-    put_text(out, b"\" rx=\"3\"/>\n")
-}
-
-/// Appends a bar in a column that lies at `x`, with its label.
-fn put_bar(
-    out: &mut Vec<u8>,
-    sheet: &Sheet<'_>,
-    bar: &Bar,
-    top: u32,
-    x: u32,
-    width: u32,
-) -> Result<(), NoMemory> {
-    put_rectangle(out, bar, top, x, width)?;
-    let y = row_of(top, bar.from).saturating_add(15);
-    put_text_at(out, b"value", x.saturating_add(6), y)?;
+    let y = row_of(top, bar.from);
+    put_rectangle(out, look(bar.role), x, y, width.saturating_sub(4), height)?;
+    put_pointed(out, sheet, section, bar)?;
+    put_text(out, b"</rect>\n")?;
+    put_text_at(out, b"value", x.saturating_add(6), y.saturating_add(15))?;
     put_label(out, sheet, bar)?;
     put_text(out, b"</text>\n")
 }
@@ -129,6 +173,7 @@ fn put_bar(
 fn put_bars(
     out: &mut Vec<u8>,
     sheet: &Sheet<'_>,
+    section: &Section<'_>,
     bars: &[Bar],
     column: &Column,
     top: u32,
@@ -136,7 +181,7 @@ fn put_bars(
 ) -> Result<(), NoMemory> {
     for bar in bars {
         if bar.reg == column.reg {
-            put_bar(out, sheet, bar, top, x, column_width(column))?;
+            put_bar(out, sheet, section, bar, top, x, column_width(column))?;
         }
     }
     Ok(())
@@ -146,6 +191,7 @@ fn put_bars(
 fn put_column(
     out: &mut Vec<u8>,
     sheet: &Sheet<'_>,
+    section: &Section<'_>,
     bars: &[Bar],
     column: &Column,
     top: u32,
@@ -153,22 +199,23 @@ fn put_column(
 ) -> Result<(), NoMemory> {
     let y = top.saturating_add(HEAD - 8);
     put_text_at(out, b"small", x.saturating_add(6), y)?;
-    put_place(out, column.reg)?;
+    put_column_name(out, column.reg)?;
     put_text(out, b"</text>\n")?;
-    put_bars(out, sheet, bars, column, top, x)
+    put_bars(out, sheet, section, bars, column, top, x)
 }
 
 /// Appends the columns of a block.
 fn put_columns(
     out: &mut Vec<u8>,
     sheet: &Sheet<'_>,
+    section: &Section<'_>,
     bars: &[Bar],
     columns: &[Column],
     top: u32,
 ) -> Result<(), NoMemory> {
     let mut x = LEFT;
     for column in columns {
-        put_column(out, sheet, bars, column, top, x)?;
+        put_column(out, sheet, section, bars, column, top, x)?;
         x = x.saturating_add(column_width(column));
     }
     Ok(())
@@ -238,22 +285,6 @@ fn columns_end(columns: &[Column]) -> u32 {
     x
 }
 
-/// Appends the rows and columns of a block that has these bars, and answers how far they go to the right.
-fn put_grid(
-    alloc: Global,
-    out: &mut Vec<u8>,
-    sheet: &Sheet<'_>,
-    section: &Section<'_>,
-    bars: &[Bar],
-    top: u32,
-) -> Result<u32, NoMemory> {
-    let columns = columns(alloc, bars)?;
-    let end = columns_end(columns.as_slice());
-    let right = put_cycles(out, sheet, section, top, end)?;
-    put_columns(out, sheet, bars, columns.as_slice(), top)?;
-    Ok(right)
-}
-
 /// Appends what stands above a block.
 fn put_title(
     alloc: Global,
@@ -262,23 +293,25 @@ fn put_title(
     section: &Section<'_>,
     top: u32,
 ) -> Result<(), NoMemory> {
-    let least = least_packets(alloc, sheet.m, section)?;
+    let least = least_packets(alloc, sheet, section)?;
     put_text_at(out, b"head", 8, top.saturating_add(18))?;
     put_head(out, section, least)?;
     put_text(out, b"</text>\n")
 }
 
-/// Appends the drawing of a block, and answers how far down and to the right it goes.
+/// Appends the drawing of a block in these columns, and answers how far down and to the right it goes.
 fn put_section(
     alloc: Global,
     out: &mut Vec<u8>,
     sheet: &Sheet<'_>,
     section: &Section<'_>,
+    columns: &[Column],
     top: u32,
 ) -> Result<Extent, NoMemory> {
     put_title(alloc, out, sheet, section, top)?;
     let bars = bars(alloc, sheet, section)?;
-    let across = put_grid(alloc, out, sheet, section, bars.as_slice(), top)?;
+    let across = put_cycles(out, sheet, section, top, columns_end(columns))?;
+    put_columns(out, sheet, section, bars.as_slice(), columns, top)?;
     let down = row_of(top, section.length.saturating_add(1)).saturating_add(GAP);
     Ok(Extent { down, across })
 }
@@ -290,12 +323,13 @@ fn put_sections(
     sheet: &Sheet<'_>,
     sections: &[Section<'_>],
 ) -> Result<Extent, NoMemory> {
+    let columns = columns(alloc, sheet, sections)?;
     let mut extent = Extent {
-        down: 8,
-        across: 480,
+        down: TITLE,
+        across: 5 * COLOUR + 16,
     };
     for section in sections {
-        let own = put_section(alloc, out, sheet, section, extent.down)?;
+        let own = put_section(alloc, out, sheet, section, columns.as_slice(), extent.down)?;
         extent.down = own.down;
         extent.across = extent.across.max(own.across);
     }
@@ -304,12 +338,15 @@ fn put_sections(
 
 /// Appends the beginning of a drawing of this size.
 fn put_start(out: &mut Vec<u8>, extent: Extent) -> Result<(), NoMemory> {
+    let (across, down) = (u64::from(extent.across), u64::from(extent.down));
     put_text(out, b"<svg xmlns=\"http://www.w3.org/2000/svg\"")?;
     put_numbers(
         out,
         &[
-            (b" width=\"", u64::from(extent.across)),
-            (b"\" height=\"", u64::from(extent.down)),
+            (b" width=\"", across),
+            (b"\" height=\"", down),
+            (b"\" viewBox=\"0 0 ", across),
+            (b" ", down),
         ],
     )?;
     put_texts(
@@ -322,15 +359,47 @@ fn put_start(out: &mut Vec<u8>, extent: Extent) -> Result<(), NoMemory> {
     )
 }
 
+/// Appends what is drawn: the function, what its code costs, and the bound of a report.
+fn put_function(
+    out: &mut Vec<u8>,
+    sheet: &Sheet<'_>,
+    sections: &[Section<'_>],
+    given: &Given<'_>,
+) -> Result<(), NoMemory> {
+    put_text_at(out, b"head", 8, 22)?;
+    put_texts(out, &[b"function ", sheet.name.as_bytes()])?;
+    put_numbers(out, &[(b": cost ", whole_cost(sections))])?;
+    if let Some(bound) = given.bound {
+        put_numbers(out, &[(b", bound ", bound)])?;
+    }
+    put_text(out, b"</text>\n")
+}
+
+/// Appends a line of the colours with what they mean.
+fn put_legend(out: &mut Vec<u8>) -> Result<(), NoMemory> {
+    let mut x: u32 = 8;
+    for (class, meaning) in COLOURS.iter() {
+        put_rectangle(out, class, x, 36, 18, 18)?;
+        put_text(out, b"</rect>\n")?;
+        put_text_at(out, b"small", x.saturating_add(26), 50)?;
+        put_texts(out, &[meaning, b"</text>\n"])?;
+        x = x.saturating_add(COLOUR);
+    }
+    Ok(())
+}
+
 /// Appends the drawing of all blocks, one below the other.
 pub fn put_drawing(
     alloc: Global,
     out: &mut Vec<u8>,
     sheet: &Sheet<'_>,
     sections: &[Section<'_>],
+    given: &Given<'_>,
 ) -> Result<(), NoMemory> {
     let mut body = Vec::new(alloc);
     let extent = put_sections(alloc, &mut body, sheet, sections)?;
     put_start(out, extent)?;
+    put_function(out, sheet, sections, given)?;
+    put_legend(out)?;
     put_texts(out, &[body.as_slice(), b"</svg>\n"])
 }

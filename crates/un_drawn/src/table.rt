@@ -1,9 +1,10 @@
 //! A solution as tables: a row for each cycle, a column for each register and slot in use.
 
-use crate::bars::{Bar, Column, bar_at, bars, columns, put_label};
+use crate::bars::{Bar, Column, KEY, bar_at, bars, columns, put_label};
 use crate::blocks::{Section, Sheet, packet};
-use crate::held::least_packets;
-use crate::pieces::{pad, put_numbers, put_place, put_texts};
+use crate::cause::least_packets;
+use crate::panels::{Panel, is_shown, panels};
+use crate::pieces::{pad, put_column_name, put_numbers, put_texts};
 use std::alloc::Global;
 use un_base::memory_error::NoMemory;
 use un_ir::text::{put_number, put_text};
@@ -78,45 +79,55 @@ fn put_row(
     sheet: &Sheet<'_>,
     section: &Section<'_>,
     bars: &[Bar],
-    columns: &[Column],
+    panel: Panel<'_>,
     cycle: u32,
 ) -> Result<(), NoMemory> {
     put_cycle(out, cycle)?;
-    for column in columns {
+    for column in panel.columns {
         put_cell(out, sheet, bars, column, cycle)?;
     }
-    put_issued(out, sheet, section, cycle)
+    if panel.has_packets {
+        put_issued(out, sheet, section, cycle)
+    } else {
+        put_text(out, b"\n")
+    }
 }
 
 /// Appends what stands above a column.
 fn put_column(out: &mut Vec<u8>, column: &Column) -> Result<(), NoMemory> {
     put_text(out, b"  ")?;
     let start = out.len();
-    put_place(out, column.reg)?;
+    put_column_name(out, column.reg)?;
     pad(out, start, column.width)
 }
 
-/// Appends the row above a table.
-fn put_columns(out: &mut Vec<u8>, columns: &[Column]) -> Result<(), NoMemory> {
+/// Appends the row above a panel.
+fn put_columns(out: &mut Vec<u8>, panel: Panel<'_>) -> Result<(), NoMemory> {
     put_text(out, b"cycle")?;
-    for column in columns {
+    for column in panel.columns {
         put_column(out, column)?;
     }
-    put_text(out, b"  packet\n")
+    if panel.has_packets {
+        put_text(out, b"  packet\n")
+    } else {
+        put_text(out, b"\n")
+    }
 }
 
-/// Appends the rows of a block that has these bars.
+/// Appends the rows of a panel of a block that has these bars, where it shows something of it.
 fn put_rows(
-    alloc: Global,
     out: &mut Vec<u8>,
     sheet: &Sheet<'_>,
     section: &Section<'_>,
     bars: &[Bar],
+    panel: Panel<'_>,
 ) -> Result<(), NoMemory> {
-    let columns = columns(alloc, bars)?;
-    put_columns(out, columns.as_slice())?;
+    if !is_shown(panel, bars) {
+        return Ok(());
+    }
+    put_columns(out, panel)?;
     for cycle in 0..section.length.saturating_add(1) {
-        put_row(out, sheet, section, bars, columns.as_slice(), cycle)?;
+        put_row(out, sheet, section, bars, panel, cycle)?;
     }
     Ok(())
 }
@@ -127,26 +138,30 @@ fn put_section(
     out: &mut Vec<u8>,
     sheet: &Sheet<'_>,
     section: &Section<'_>,
+    panels: &[Panel<'_>],
 ) -> Result<(), NoMemory> {
-    let least = least_packets(alloc, sheet.m, section)?;
+    let least = least_packets(alloc, sheet, section)?;
     put_head(out, section, least)?;
     put_text(out, b"\n")?;
     let bars = bars(alloc, sheet, section)?;
-    put_rows(alloc, out, sheet, section, bars.as_slice())
+    for panel in panels {
+        put_rows(out, sheet, section, bars.as_slice(), *panel)?;
+    }
+    Ok(())
 }
 
-/// Appends the tables of all blocks, each with what is said of it, and an empty line between two.
+/// Appends the tables of all blocks, each with what is said of it and an empty line behind it, and last what the marks mean.
 pub fn put_tables(
     alloc: Global,
     out: &mut Vec<u8>,
     sheet: &Sheet<'_>,
     sections: &[Section<'_>],
 ) -> Result<(), NoMemory> {
-    let mut between: &[u8] = b"";
+    let columns = columns(alloc, sheet, sections)?;
+    let panels = panels(alloc, sheet, sections, columns.as_slice())?;
     for section in sections {
-        put_text(out, between)?;
-        put_section(alloc, out, sheet, section)?;
-        between = b"\n";
+        put_section(alloc, out, sheet, section, panels.as_slice())?;
+        put_text(out, b"\n")?;
     }
-    Ok(())
+    put_text(out, KEY)
 }
