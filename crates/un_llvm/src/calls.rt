@@ -25,7 +25,7 @@ static WORDS: [&[u8]; 10] = [
 /// The arguments of a call, behind the bracket before them.
 fn arguments<'a>(
     scope: &mut Scope<'a>,
-    cursor: &mut Cursor<'a>,
+    cursor: &mut Cursor<'_, 'a>,
 ) -> Result<Vec<Operand<'a>>, Refusal<'a>> {
     let mut found = Vec::new(scope.alloc);
     if cursor.takes_mark(b')') {
@@ -47,7 +47,7 @@ fn arguments<'a>(
 }
 
 /// The function that is called, behind the type of its result.
-fn callee<'a>(cursor: &mut Cursor<'a>) -> Result<&'a [u8], Refusal<'a>> {
+fn callee<'a>(cursor: &mut Cursor<'_, 'a>) -> Result<&'a [u8], Refusal<'a>> {
     if cursor.takes_mark(b'(') {
         cursor.skip_parentheses();
     }
@@ -90,7 +90,7 @@ fn computed(name: &[u8]) -> Option<Binary> {
 }
 
 /// The amount of a rotation to the left: a constant, less than 32.
-fn amount<'a>(cursor: &Cursor<'a>, operand: &Operand<'a>) -> Result<u32, Refusal<'a>> {
+fn amount<'a>(cursor: &Cursor<'_, 'a>, operand: &Operand<'a>) -> Result<u32, Refusal<'a>> {
     match operand {
         Operand::Number(number) => Ok(u32::try_from(number.rem_euclid(32)).unwrap_or(0)),
         _ => Err(cursor.lacks(Missing::VariableShift)),
@@ -98,7 +98,7 @@ fn amount<'a>(cursor: &Cursor<'a>, operand: &Operand<'a>) -> Result<u32, Refusal
 }
 
 /// What a function of LLVM's own does.
-fn intrinsic<'a>(cursor: &Cursor<'a>, call: &Written<'a>) -> Result<Action<'a>, Refusal<'a>> {
+fn intrinsic<'a>(cursor: &Cursor<'_, 'a>, call: &Written<'a>) -> Result<Action<'a>, Refusal<'a>> {
     let lacks = cursor.lacks_word(Missing::Intrinsic, call.callee);
     let arguments = call.arguments.as_slice();
     match arguments {
@@ -130,7 +130,7 @@ fn intrinsic<'a>(cursor: &Cursor<'a>, call: &Written<'a>) -> Result<Action<'a>, 
 }
 
 /// What a call does.
-fn action<'a>(cursor: &Cursor<'a>, call: Written<'a>) -> Result<Action<'a>, Refusal<'a>> {
+fn action<'a>(cursor: &Cursor<'_, 'a>, call: Written<'a>) -> Result<Action<'a>, Refusal<'a>> {
     if call.callee.starts_with(b"llvm.") {
         return intrinsic(cursor, &call);
     }
@@ -148,7 +148,7 @@ fn action<'a>(cursor: &Cursor<'a>, call: Written<'a>) -> Result<Action<'a>, Refu
 /// `call`, behind that word: how many bits its result has and what it does; nothing where it does nothing.
 pub fn call<'a>(
     scope: &mut Scope<'a>,
-    cursor: &mut Cursor<'a>,
+    cursor: &mut Cursor<'_, 'a>,
 ) -> Result<Option<(u32, Action<'a>)>, Refusal<'a>> {
     cursor.skip_words(&WORDS);
     let mut ahead = *cursor;

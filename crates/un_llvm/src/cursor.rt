@@ -5,16 +5,16 @@ use crate::token::Token;
 
 /// What is left of a statement.
 #[derive(Clone, Copy)]
-pub struct Cursor<'a> {
+pub struct Cursor<'t, 'a> {
     /// The line of the statement.
     pub line: u32,
     /// Its tokens.
-    pub tokens: &'a [Token<'a>],
+    pub tokens: &'t [Token<'a>],
     /// How many of them were taken.
     pub taken: usize,
 }
 
-impl<'a> Cursor<'a> {
+impl<'t, 'a> Cursor<'t, 'a> {
     /// How many tokens are left.
     pub fn left(&self) -> usize {
         self.tokens.len().saturating_sub(self.taken)

@@ -70,7 +70,7 @@ fn relation_named(word: &[u8]) -> Option<Relation> {
 /// A computation, behind its word.
 fn compute<'a>(
     scope: &mut Scope<'a>,
-    cursor: &mut Cursor<'a>,
+    cursor: &mut Cursor<'_, 'a>,
     what: Binary,
 ) -> Result<(u32, Action<'a>), Refusal<'a>> {
     cursor.skip_words(&[b"nsw", b"nuw", b"exact", b"disjoint"]);
@@ -83,7 +83,7 @@ fn compute<'a>(
 /// `icmp`, behind that word.
 fn compare<'a>(
     scope: &mut Scope<'a>,
-    cursor: &mut Cursor<'a>,
+    cursor: &mut Cursor<'_, 'a>,
 ) -> Result<(u32, Action<'a>), Refusal<'a>> {
     cursor.skip_words(&[b"samesign"]);
     let word = cursor.word()?;
@@ -104,7 +104,7 @@ fn compare<'a>(
 /// `select`, behind that word.
 fn choose<'a>(
     scope: &mut Scope<'a>,
-    cursor: &mut Cursor<'a>,
+    cursor: &mut Cursor<'_, 'a>,
 ) -> Result<(u32, Action<'a>), Refusal<'a>> {
     let (_, condition) = scope.typed(cursor)?;
     cursor.mark(b',')?;
@@ -118,7 +118,7 @@ fn choose<'a>(
 /// A value that comes in from a block, in brackets.
 fn incoming<'a>(
     scope: &mut Scope<'a>,
-    cursor: &mut Cursor<'a>,
+    cursor: &mut Cursor<'_, 'a>,
 ) -> Result<Incoming<'a>, Refusal<'a>> {
     cursor.mark(b'[')?;
     let value = scope.operand(cursor)?;
@@ -131,7 +131,7 @@ fn incoming<'a>(
 /// `phi`, behind that word.
 fn merge<'a>(
     scope: &mut Scope<'a>,
-    cursor: &mut Cursor<'a>,
+    cursor: &mut Cursor<'_, 'a>,
 ) -> Result<(u32, Action<'a>), Refusal<'a>> {
     let width = scope.types.read_width(cursor)?;
     let mut found = Vec::new(scope.alloc);
@@ -148,7 +148,7 @@ fn merge<'a>(
 /// A conversion, behind its word: how many bits the result has, and what it does.
 fn convert<'a>(
     scope: &mut Scope<'a>,
-    cursor: &mut Cursor<'a>,
+    cursor: &mut Cursor<'_, 'a>,
     word: &'a [u8],
 ) -> Result<(u32, Action<'a>), Refusal<'a>> {
     cursor.skip_words(&[b"nneg", b"nuw", b"nsw"]);
@@ -176,7 +176,7 @@ fn convert<'a>(
 /// `freeze`, behind that word.
 fn freeze<'a>(
     scope: &mut Scope<'a>,
-    cursor: &mut Cursor<'a>,
+    cursor: &mut Cursor<'_, 'a>,
 ) -> Result<(u32, Action<'a>), Refusal<'a>> {
     let (width, value) = scope.typed(cursor)?;
     Ok((width, Action::Same(value)))
@@ -185,7 +185,7 @@ fn freeze<'a>(
 /// What an instruction with this word does that neither leaves its block nor calls: how many bits its values have, and what it does.
 fn plain<'a>(
     scope: &mut Scope<'a>,
-    cursor: &mut Cursor<'a>,
+    cursor: &mut Cursor<'_, 'a>,
     word: &'a [u8],
 ) -> Result<(u32, Action<'a>), Refusal<'a>> {
     if let Some(what) = binary_named(word) {
@@ -209,7 +209,7 @@ fn plain<'a>(
 /// What an instruction with this word does: how many bits its values have, and what it does; nothing where it does nothing.
 fn acted<'a>(
     scope: &mut Scope<'a>,
-    cursor: &mut Cursor<'a>,
+    cursor: &mut Cursor<'_, 'a>,
     word: &'a [u8],
 ) -> Result<Option<(u32, Action<'a>)>, Refusal<'a>> {
     match word {
@@ -224,7 +224,7 @@ fn acted<'a>(
 /// The name of an instruction's result, behind which an equals sign stands.
 fn result_of<'a>(
     scope: &mut Scope<'a>,
-    cursor: &mut Cursor<'a>,
+    cursor: &mut Cursor<'_, 'a>,
 ) -> Result<Option<NameId>, Refusal<'a>> {
     let Some(Token::Local(name)) = cursor.peek() else {
         return Ok(None);
@@ -237,7 +237,7 @@ fn result_of<'a>(
 /// An instruction; none where a statement does nothing that matters.
 pub fn instruction<'a>(
     scope: &mut Scope<'a>,
-    cursor: &mut Cursor<'a>,
+    cursor: &mut Cursor<'_, 'a>,
 ) -> Result<Option<Read<'a>>, Refusal<'a>> {
     let line = cursor.line;
     let result = result_of(scope, cursor)?;

@@ -32,7 +32,7 @@ fn add_scaled<'a>(place: &mut Place<'a>, operand: Operand<'a>, bytes: u32) -> Re
 /// Goes from an address into the value that lies there.
 fn go_into<'a>(
     scope: &mut Scope<'a>,
-    cursor: &Cursor<'a>,
+    cursor: &Cursor<'_, 'a>,
     place: &mut Place<'a>,
     index: Operand<'a>,
 ) -> Result<(), Refusal<'a>> {
@@ -58,7 +58,7 @@ fn go_into<'a>(
 /// `getelementptr`, behind that word.
 pub fn locate<'a>(
     scope: &mut Scope<'a>,
-    cursor: &mut Cursor<'a>,
+    cursor: &mut Cursor<'_, 'a>,
 ) -> Result<Action<'a>, Refusal<'a>> {
     cursor.skip_words(&[b"inbounds", b"nuw", b"nusw"]);
     let kind = scope.types.read(cursor)?;
@@ -96,7 +96,10 @@ pub fn locate<'a>(
 }
 
 /// `load`, behind that word.
-pub fn load<'a>(scope: &mut Scope<'a>, cursor: &mut Cursor<'a>) -> Result<Action<'a>, Refusal<'a>> {
+pub fn load<'a>(
+    scope: &mut Scope<'a>,
+    cursor: &mut Cursor<'_, 'a>,
+) -> Result<Action<'a>, Refusal<'a>> {
     cursor.skip_words(&[b"volatile"]);
     let width = scope.types.read_width(cursor)?;
     if width != 32 {
@@ -110,7 +113,7 @@ pub fn load<'a>(scope: &mut Scope<'a>, cursor: &mut Cursor<'a>) -> Result<Action
 /// `store`, behind that word.
 pub fn store<'a>(
     scope: &mut Scope<'a>,
-    cursor: &mut Cursor<'a>,
+    cursor: &mut Cursor<'_, 'a>,
 ) -> Result<Action<'a>, Refusal<'a>> {
     cursor.skip_words(&[b"volatile"]);
     let (width, value) = scope.typed(cursor)?;

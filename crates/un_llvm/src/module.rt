@@ -37,7 +37,7 @@ impl<'a> Module<'a> {
     }
 
     /// The tokens of a statement.
-    fn cursor(&self, span: &Span<'a>) -> Cursor<'_> {
+    fn cursor(&self, span: &Span<'a>) -> Cursor<'_, 'a> {
         let tokens = self.statements.tokens.as_slice();
         let (_, rest) = tokens.split_at(span.start.min(tokens.len()));
         let len = span.end.saturating_sub(span.start);
@@ -51,7 +51,7 @@ impl<'a> Module<'a> {
 }
 
 /// The name of the function that a statement defines.
-fn defined<'a>(cursor: &Cursor<'a>) -> Option<&'a [u8]> {
+fn defined<'a>(cursor: &Cursor<'_, 'a>) -> Option<&'a [u8]> {
     let mut cursor = *cursor;
     if !cursor.takes_word(b"define") {
         return None;
@@ -65,7 +65,7 @@ fn defined<'a>(cursor: &Cursor<'a>) -> Option<&'a [u8]> {
 }
 
 /// The function of this name, or the first one.
-fn function_named<'a>(module: &'a Module<'a>, wanted: Option<&[u8]>) -> Option<Found<'a>> {
+fn function_named<'a>(module: &Module<'a>, wanted: Option<&[u8]>) -> Option<Found<'a>> {
     for (at, span) in module.statements.spans.iter().enumerate() {
         if let Some(name) = defined(&module.cursor(span))
             && wanted.is_none_or(|w| w == name)
@@ -77,7 +77,7 @@ fn function_named<'a>(module: &'a Module<'a>, wanted: Option<&[u8]>) -> Option<F
 }
 
 /// The types that the lines of a module name.
-fn types<'a>(alloc: Global, module: &'a Module<'a>) -> Result<Types<'a>, Refusal<'a>> {
+fn types<'a>(alloc: Global, module: &Module<'a>) -> Result<Types<'a>, Refusal<'a>> {
     let mut types = Types::new(alloc);
     for span in module.statements.spans.iter() {
         let mut cursor = module.cursor(span);
@@ -93,7 +93,7 @@ fn types<'a>(alloc: Global, module: &'a Module<'a>) -> Result<Types<'a>, Refusal
 }
 
 /// The statements of a function behind its first line, and not its last one, which is a bracket.
-fn body<'a>(module: &'a Module<'a>, found: &Found<'a>) -> &'a [Span<'a>] {
+fn body<'m, 'a>(module: &'m Module<'a>, found: &Found<'a>) -> &'m [Span<'a>] {
     let spans = module.statements.spans.as_slice();
     let (_, rest) = spans.split_at(found.at.saturating_add(1).min(spans.len()));
     let end = rest.iter().position(|span| {
@@ -105,7 +105,10 @@ fn body<'a>(module: &'a Module<'a>, found: &Found<'a>) -> &'a [Span<'a>] {
 }
 
 /// A parameter: its type, words, and its name.
-fn parameter<'a>(scope: &mut Scope<'a>, cursor: &mut Cursor<'a>) -> Result<Parameter, Refusal<'a>> {
+fn parameter<'a>(
+    scope: &mut Scope<'a>,
+    cursor: &mut Cursor<'_, 'a>,
+) -> Result<Parameter, Refusal<'a>> {
     let width = scope.types.read_width(cursor)?;
     skip_attributes(cursor);
     match cursor.take() {
@@ -121,7 +124,7 @@ fn parameter<'a>(scope: &mut Scope<'a>, cursor: &mut Cursor<'a>) -> Result<Param
 /// The parameters of a function, behind the bracket before them.
 fn parameters<'a>(
     scope: &mut Scope<'a>,
-    cursor: &mut Cursor<'a>,
+    cursor: &mut Cursor<'_, 'a>,
 ) -> Result<Vec<Parameter>, Refusal<'a>> {
     let mut found = Vec::new(scope.alloc);
     if cursor.takes_mark(b')') {
@@ -141,7 +144,10 @@ fn parameters<'a>(
 }
 
 /// How many bits the result of a function has whose first line this is; what stands before its parameters is taken.
-fn result_width<'a>(scope: &mut Scope<'a>, cursor: &mut Cursor<'a>) -> Result<u32, Refusal<'a>> {
+fn result_width<'a>(
+    scope: &mut Scope<'a>,
+    cursor: &mut Cursor<'_, 'a>,
+) -> Result<u32, Refusal<'a>> {
     for _ in 0..cursor.left() {
         let mut ahead = *cursor;
         if let Ok(width) = scope.types.read_width(&mut ahead)
@@ -188,7 +194,7 @@ fn labels<'a>(
 }
 
 /// The weights that a line of this name tells.
-fn weights<'a>(module: &'a Module<'a>, name: &[u8]) -> Option<(u32, u32)> {
+fn weights<'a>(module: &Module<'a>, name: &[u8]) -> Option<(u32, u32)> {
     for span in module.statements.spans.iter() {
         let mut cursor = module.cursor(span);
         match cursor.take() {
@@ -203,7 +209,7 @@ fn weights<'a>(module: &'a Module<'a>, name: &[u8]) -> Option<(u32, u32)> {
 }
 
 /// The first two numbers of a line that are weights.
-fn two_numbers(cursor: &Cursor<'_>) -> Option<(u32, u32)> {
+fn two_numbers(cursor: &Cursor<'_, '_>) -> Option<(u32, u32)> {
     let mut first: Option<u32> = None;
     for token in cursor.tokens {
         match (token, first) {
@@ -219,7 +225,7 @@ fn two_numbers(cursor: &Cursor<'_>) -> Option<(u32, u32)> {
 }
 
 /// An instruction with the weights that it names.
-fn weighted<'a>(module: &'a Module<'a>, read: Read<'a>) -> Instruction<'a> {
+fn weighted<'a>(module: &Module<'a>, read: Read<'a>) -> Instruction<'a> {
     let Read {
         mut instruction,
         weights: name,
@@ -256,7 +262,7 @@ fn add_instruction<'a>(
 
 /// Adds a statement to the blocks: a block, or an instruction of the last one.
 fn add_statement<'a>(
-    module: &'a Module<'a>,
+    module: &Module<'a>,
     scope: &mut Scope<'a>,
     blocks: &mut Vec<Block<'a>>,
     span: &Span<'a>,
@@ -286,7 +292,7 @@ fn add_statement<'a>(
 
 /// The blocks of a function.
 fn blocks<'a>(
-    module: &'a Module<'a>,
+    module: &Module<'a>,
     scope: &mut Scope<'a>,
     body: &[Span<'a>],
 ) -> Result<Vec<Block<'a>>, Refusal<'a>> {
@@ -303,7 +309,7 @@ fn blocks<'a>(
 /// What is missing, with its line; `NoMemory`.
 pub fn function<'a>(
     alloc: Global,
-    module: &'a Module<'a>,
+    module: &Module<'a>,
     wanted: Option<&[u8]>,
 ) -> Result<Function<'a>, Refusal<'a>> {
     let nowhere = Refusal::Lacks {

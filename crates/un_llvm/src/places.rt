@@ -45,7 +45,7 @@ static MEASURED: [&[u8]; 5] = [
 ];
 
 /// Takes one of the words with something behind them, and that.
-fn skip_measured(cursor: &mut Cursor<'_>) {
+fn skip_measured(cursor: &mut Cursor<'_, '_>) {
     for word in MEASURED.iter() {
         if cursor.takes_word(word) {
             if cursor.takes_mark(b'(') {
@@ -58,7 +58,7 @@ fn skip_measured(cursor: &mut Cursor<'_>) {
 }
 
 /// Takes all that stands before a value and says nothing that matters here.
-pub fn skip_attributes(cursor: &mut Cursor<'_>) {
+pub fn skip_attributes(cursor: &mut Cursor<'_, '_>) {
     for _ in 0..cursor.left() {
         let before = cursor.left();
         cursor.skip_words(&ATTRIBUTES);
@@ -112,7 +112,7 @@ impl<'a> Scope<'a> {
     ///
     /// # Errors
     /// `Block` where there is none.
-    pub fn block(&self, cursor: &Cursor<'a>, label: &'a [u8]) -> Result<BlockId, Refusal<'a>> {
+    pub fn block(&self, cursor: &Cursor<'_, 'a>, label: &'a [u8]) -> Result<BlockId, Refusal<'a>> {
         match place_of(self.labels.as_slice(), label) {
             Some(place) => Ok(place),
             None => Err(cursor.lacks_word(Missing::Block, label)),
@@ -120,7 +120,7 @@ impl<'a> Scope<'a> {
     }
 
     /// The block behind the word `label`.
-    pub fn label(&self, cursor: &mut Cursor<'a>) -> Result<BlockId, Refusal<'a>> {
+    pub fn label(&self, cursor: &mut Cursor<'_, 'a>) -> Result<BlockId, Refusal<'a>> {
         cursor.takes_word(b"label");
         match cursor.take() {
             Some(Token::Local(label)) => self.block(cursor, label),
@@ -132,7 +132,7 @@ impl<'a> Scope<'a> {
     ///
     /// # Errors
     /// `Form` where none stands there, `Address` where it is made of the address of a variable.
-    pub fn operand(&mut self, cursor: &mut Cursor<'a>) -> Result<Operand<'a>, Refusal<'a>> {
+    pub fn operand(&mut self, cursor: &mut Cursor<'_, 'a>) -> Result<Operand<'a>, Refusal<'a>> {
         skip_attributes(cursor);
         match cursor.take() {
             Some(Token::Local(name)) => Ok(Operand::Name(self.name(name)?)),
@@ -147,7 +147,10 @@ impl<'a> Scope<'a> {
     }
 
     /// A type and a value of it: how many bits it has, and the value.
-    pub fn typed(&mut self, cursor: &mut Cursor<'a>) -> Result<(u32, Operand<'a>), Refusal<'a>> {
+    pub fn typed(
+        &mut self,
+        cursor: &mut Cursor<'_, 'a>,
+    ) -> Result<(u32, Operand<'a>), Refusal<'a>> {
         let width = self.types.read_width(cursor)?;
         let operand = self.operand(cursor)?;
         Ok((width, operand))

@@ -9,7 +9,7 @@ use crate::token::Token;
 use un_base::memory_error::NoMemory;
 
 /// The name of the line on which a branch's weights stand.
-fn weights_name<'a>(cursor: &Cursor<'a>) -> Option<&'a [u8]> {
+fn weights_name<'a>(cursor: &Cursor<'_, 'a>) -> Option<&'a [u8]> {
     let mut rest = *cursor;
     for _ in 0..cursor.left() {
         if let Some(Token::Metadata(b"prof")) = rest.take()
@@ -24,7 +24,7 @@ fn weights_name<'a>(cursor: &Cursor<'a>) -> Option<&'a [u8]> {
 /// `br`, behind that word; and the name of the line on which its weights stand.
 pub fn branch<'a>(
     scope: &mut Scope<'a>,
-    cursor: &mut Cursor<'a>,
+    cursor: &mut Cursor<'_, 'a>,
 ) -> Result<(Action<'a>, Option<&'a [u8]>), Refusal<'a>> {
     if let Some(Token::Word(b"label")) = cursor.peek() {
         return Ok((Action::Jump(scope.label(cursor)?), None));
@@ -44,7 +44,7 @@ pub fn branch<'a>(
 }
 
 /// A way out of a switch.
-fn case<'a>(scope: &mut Scope<'a>, cursor: &mut Cursor<'a>) -> Result<Case, Refusal<'a>> {
+fn case<'a>(scope: &mut Scope<'a>, cursor: &mut Cursor<'_, 'a>) -> Result<Case, Refusal<'a>> {
     let _ = scope.types.read_width(cursor)?;
     let value = cursor.number()?;
     cursor.mark(b',')?;
@@ -55,7 +55,7 @@ fn case<'a>(scope: &mut Scope<'a>, cursor: &mut Cursor<'a>) -> Result<Case, Refu
 /// `switch`, behind that word; and how many bits its value has.
 pub fn switch<'a>(
     scope: &mut Scope<'a>,
-    cursor: &mut Cursor<'a>,
+    cursor: &mut Cursor<'_, 'a>,
 ) -> Result<(u32, Action<'a>), Refusal<'a>> {
     let (width, value) = scope.typed(cursor)?;
     cursor.mark(b',')?;
@@ -80,7 +80,7 @@ pub fn switch<'a>(
 /// `ret`, behind that word; and how many bits the result has.
 pub fn give<'a>(
     scope: &mut Scope<'a>,
-    cursor: &mut Cursor<'a>,
+    cursor: &mut Cursor<'_, 'a>,
 ) -> Result<(u32, Action<'a>), Refusal<'a>> {
     if cursor.takes_word(b"void") {
         return Ok((0, Action::Return(None)));

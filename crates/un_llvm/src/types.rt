@@ -234,7 +234,7 @@ impl<'a> Types<'a> {
     /// Takes the beginning of a type: a whole one, or one that is open then.
     fn begin(
         &mut self,
-        cursor: &mut Cursor<'a>,
+        cursor: &mut Cursor<'_, 'a>,
         open: &mut Vec<Open>,
     ) -> Result<Option<TypeId>, Refusal<'a>> {
         match cursor.take() {
@@ -261,7 +261,7 @@ impl<'a> Types<'a> {
     /// Goes on behind a whole type within one that is open: the open one is whole then, or another part of it begins.
     fn close(
         &mut self,
-        cursor: &mut Cursor<'a>,
+        cursor: &mut Cursor<'_, 'a>,
         open: &mut Vec<Open>,
         last: Open,
         part: TypeId,
@@ -287,7 +287,7 @@ impl<'a> Types<'a> {
     ///
     /// # Errors
     /// `Type` or `Form` where none stands there.
-    pub fn read(&mut self, cursor: &mut Cursor<'a>) -> Result<TypeId, Refusal<'a>> {
+    pub fn read(&mut self, cursor: &mut Cursor<'_, 'a>) -> Result<TypeId, Refusal<'a>> {
         let mut open = Vec::new(self.alloc);
         let mut whole: Option<TypeId> = None;
         for _ in 0..cursor.left().saturating_mul(2).saturating_add(2) {
@@ -313,7 +313,7 @@ impl<'a> Types<'a> {
     ///
     /// # Errors
     /// `Type` where there are no such values.
-    pub fn read_width(&mut self, cursor: &mut Cursor<'a>) -> Result<u32, Refusal<'a>> {
+    pub fn read_width(&mut self, cursor: &mut Cursor<'_, 'a>) -> Result<u32, Refusal<'a>> {
         let about = match cursor.peek() {
             Some(Token::Word(word)) => word,
             _ => b"",
