@@ -1,0 +1,158 @@
+//! Names and labels by their places, and operands.
+
+use crate::cursor::Cursor;
+use crate::function::{BlockId, NameId, Operand};
+use crate::lists::push;
+use crate::refusal::{Missing, Refusal};
+use crate::token::Token;
+use crate::types::Types;
+use std::alloc::Global;
+use un_base::memory_error::NoMemory;
+
+/// What a function's lines speak of: types, the names of values, and the labels of blocks.
+#[derive(Drop)]
+pub struct Scope<'a> {
+    pub alloc: Global,
+    pub types: Types<'a>,
+    pub names: Vec<&'a [u8]>,
+    pub labels: Vec<&'a [u8]>,
+}
+
+/// Words that may stand before a value and say nothing that matters here.
+static ATTRIBUTES: [&[u8]; 13] = [
+    b"noundef",
+    b"nonnull",
+    b"signext",
+    b"zeroext",
+    b"nocapture",
+    b"readonly",
+    b"writeonly",
+    b"readnone",
+    b"noalias",
+    b"returned",
+    b"inreg",
+    b"immarg",
+    b"nofree",
+];
+
+/// Words that may stand before a value with a number or with something in brackets behind them.
+static MEASURED: [&[u8]; 5] = [
+    b"align",
+    b"dereferenceable",
+    b"dereferenceable_or_null",
+    b"sret",
+    b"byval",
+];
+
+/// Takes one of the words with something behind them, and that.
+fn skip_measured(cursor: &mut Cursor<'_, '_>) {
+    for word in MEASURED.iter() {
+        if cursor.takes_word(word) {
+            if cursor.takes_mark(b'(') {
+                cursor.skip_parentheses();
+            } else {
+                let _ = cursor.take();
+            }
+        }
+    }
+}
+
+/// Takes all that stands before a value and says nothing that matters here.
+pub fn skip_attributes(cursor: &mut Cursor<'_, '_>) {
+    for _ in 0..cursor.left() {
+        let before = cursor.left();
+        cursor.skip_words(&ATTRIBUTES);
+        skip_measured(cursor);
+        if cursor.left() == before {
+            break;
+        }
+    }
+}
+
+/// The place of a text among texts.
+fn place_of(texts: &[&[u8]], text: &[u8]) -> Option<usize> {
+    texts.iter().position(|t| *t == text)
+}
+
+/// The number that a word stands for.
+fn constant(word: &[u8]) -> Option<i64> {
+    if word == b"true".as_slice() {
+        return Some(1);
+    }
+    let is_zero = word == b"false".as_slice()
+        || word == b"null".as_slice()
+        || word == b"undef".as_slice()
+        || word == b"poison".as_slice()
+        || word == b"zeroinitializer".as_slice();
+    if is_zero { Some(0) } else { None }
+}
+
+impl<'a> Scope<'a> {
+    /// A scope with types and labels, and no names.
+    pub fn new(alloc: Global, types: Types<'a>, labels: Vec<&'a [u8]>) -> Scope<'a> {
+        Scope {
+            alloc,
+            types,
+            names: Vec::new(alloc),
+            labels,
+        }
+    }
+
+    /// The place of a name, which is added where it is new.
+    pub fn name(&mut self, text: &'a [u8]) -> Result<NameId, NoMemory> {
+        if let Some(place) = place_of(self.names.as_slice(), text) {
+            return Ok(place);
+        }
+        let place = self.names.len();
+        push(&mut self.names, text)?;
+        Ok(place)
+    }
+
+    /// The block of a label.
+    ///
+    /// # Errors
+    /// `Block` where there is none.
+    pub fn block(&self, cursor: &Cursor<'_, 'a>, label: &'a [u8]) -> Result<BlockId, Refusal<'a>> {
+        match place_of(self.labels.as_slice(), label) {
+            Some(place) => Ok(place),
+            None => Err(cursor.lacks_word(Missing::Block, label)),
+        }
+    }
+
+    /// The block behind the word `label`.
+    pub fn label(&self, cursor: &mut Cursor<'_, 'a>) -> Result<BlockId, Refusal<'a>> {
+        cursor.takes_word(b"label");
+        match cursor.take() {
+            Some(Token::Local(label)) => self.block(cursor, label),
+            _ => Err(cursor.lacks(Missing::Form)),
+        }
+    }
+
+    /// A value.
+    ///
+    /// # Errors
+    /// `Form` where none stands there, `Address` where it is made of the address of a variable.
+    pub fn operand(&mut self, cursor: &mut Cursor<'_, 'a>) -> Result<Operand<'a>, Refusal<'a>> {
+        skip_attributes(cursor);
+        match cursor.take() {
+            Some(Token::Local(name)) => Ok(Operand::Name(self.name(name)?)),
+            Some(Token::Number(number)) => Ok(Operand::Number(number)),
+            Some(Token::Global(name)) => Ok(Operand::Address(name)),
+            Some(Token::Word(word)) => match constant(word) {
+                Some(number) => Ok(Operand::Number(number)),
+                None => Err(cursor.lacks_word(Missing::Address, word)),
+            },
+            _ => Err(cursor.lacks(Missing::Form)),
+        }
+    }
+
+    /// A type and a value of it: how many bits it has, and the value.
+    pub fn typed(
+        &mut self,
+        cursor: &mut Cursor<'_, 'a>,
+    ) -> Result<(u32, Operand<'a>), Refusal<'a>> {
+        let width = self.types.read_width(cursor)?;
+        let operand = self.operand(cursor)?;
+        Ok((width, operand))
+    }
+}
