@@ -1,6 +1,6 @@
 //! Says more of a fault than its line and code, for a user: the words at fault underlined, what is wrong, and what would be accepted.
-//! `text` teaches of a function's text on standard input, `texts` of the files that a file of this name lists, `words` of the words behind it,
-//! and `start N`, `listing N` and `report N` of the line N of such a part on standard input.
+//! `text` teaches of a function's text on standard input, `texts` of the files that a file of this name lists, `words` of the words
+//! behind it, and `start N`, `listing N` and `report N` of the line N of such a part on standard input.
 #![tactic(auto)]
 
 use std::alloc::Global;

@@ -36,37 +36,37 @@ static START: [Form; 6] = [
         head: "reg",
         count: 3,
         numbers: true,
-        text: "reg R N, with R from 0 to 35, where 32 to 35 are p0 to p3, and N from 0 to 4294967295",
+        text: "`reg R N`, with R from 0 to 35, where 32 to 35 are p0 to p3, and N from 0 to 4294967295",
     },
     Form {
         head: "mem",
         count: 3,
         numbers: true,
-        text: "mem ADDRESS WORD, with a multiple of 4 and a number from 0 to 4294967295",
+        text: "`mem ADDRESS WORD`, with a multiple of 4 and a number from 0 to 4294967295",
     },
     Form {
         head: "reply",
         count: 2,
         numbers: true,
-        text: "reply N, what a call returns",
+        text: "`reply N`, what a call returns",
     },
     Form {
         head: "set",
         count: 3,
         numbers: true,
-        text: "set ADDRESS WORD, a word that the call changes",
+        text: "`set ADDRESS WORD`, a word that the call changes",
     },
     Form {
         head: "junk",
         count: 3,
         numbers: true,
-        text: "junk R N, what the call leaves in a register",
+        text: "`junk R N`, what the call leaves in a register",
     },
     Form {
         head: "blocks",
         count: 2,
         numbers: true,
-        text: "blocks N, how many blocks may be entered",
+        text: "`blocks N`, how many blocks may be entered",
     },
 ];
 
@@ -76,19 +76,19 @@ static LISTING: [Form; 3] = [
         head: "frame",
         count: 2,
         numbers: true,
-        text: "frame F, a multiple of 8 up to 256",
+        text: "`frame F`, a multiple of 8 up to 256",
     },
     Form {
         head: "block",
         count: 2,
         numbers: false,
-        text: "block LABEL",
+        text: "`block LABEL`",
     },
     Form {
         head: "{",
         count: 0,
         numbers: false,
-        text: "{ .. }, up to four instructions with `;` between them, as `alloc` prints them",
+        text: "`{ .. }`, up to four instructions with `;` between them, as `alloc` prints them",
     },
 ];
 
@@ -98,97 +98,97 @@ static REPORT: [Form; 16] = [
         head: "unison",
         count: 2,
         numbers: false,
-        text: "unison 1",
+        text: "`unison 1`",
     },
     Form {
         head: "function",
         count: 2,
         numbers: false,
-        text: "function NAME",
+        text: "`function NAME`",
     },
     Form {
         head: "model",
         count: 7,
         numbers: false,
-        text: "model regs R slots S nodes N",
+        text: "`model regs R slots S nodes N`",
     },
     Form {
         head: "answer",
         count: 2,
         numbers: false,
-        text: "answer code, answer infeasible or answer spent",
+        text: "`answer code`, `answer infeasible` or `answer spent`",
     },
     Form {
         head: "cost",
         count: 2,
         numbers: true,
-        text: "cost N",
+        text: "`cost N`",
     },
     Form {
         head: "bound",
         count: 2,
         numbers: true,
-        text: "bound N",
+        text: "`bound N`",
     },
     Form {
         head: "listing",
         count: 2,
         numbers: true,
-        text: "listing N, the number of the lines of packets and blocks that follow",
+        text: "`listing N`, the number of the lines of packets and blocks that follow",
     },
     Form {
         head: "frame",
         count: 2,
         numbers: true,
-        text: "frame F, a multiple of 8 up to 256",
+        text: "`frame F`, a multiple of 8 up to 256",
     },
     Form {
         head: "block",
         count: 2,
         numbers: false,
-        text: "block LABEL",
+        text: "`block LABEL`",
     },
     Form {
         head: "{",
         count: 0,
         numbers: false,
-        text: "{ .. }, a packet",
+        text: "`{ .. }`, a packet",
     },
     Form {
         head: "solution",
         count: 2,
         numbers: true,
-        text: "solution N, the number of the values that follow",
+        text: "`solution N`, the number of the values that follow",
     },
     Form {
         head: "tree",
         count: 2,
         numbers: true,
-        text: "tree N, the number of the nodes that follow",
+        text: "`tree N`, the number of the nodes that follow",
     },
     Form {
         head: "B",
         count: 3,
         numbers: true,
-        text: "B V N, a branch",
+        text: "`B V N`, a branch",
     },
     Form {
         head: "C",
         count: 1,
         numbers: true,
-        text: "C, a closed leaf",
+        text: "`C`, a closed leaf",
     },
     Form {
         head: "O",
         count: 1,
         numbers: true,
-        text: "O, an open leaf",
+        text: "`O`, an open leaf",
     },
     Form {
         head: "end",
         count: 1,
         numbers: true,
-        text: "end",
+        text: "`end`",
     },
 ];
 
@@ -270,7 +270,7 @@ fn form_told(
         return told(
             behind(row),
             format!(in alloc; "the line lacks a word"),
-            format!(in alloc; "it is written `{text}`"),
+            format!(in alloc; "it is written {text}"),
         );
     }
     if form.count > 0 && form.count < count {
@@ -278,7 +278,7 @@ fn form_told(
         return told(
             at_word(row, form.count),
             wrong,
-            format!(in alloc; "it is written `{text}`"),
+            format!(in alloc; "it is written {text}"),
         );
     }
     if form.numbers {
@@ -288,7 +288,7 @@ fn form_told(
             return told(
                 at_word(row, place),
                 wrong,
-                format!(in alloc; "the line is written `{text}`"),
+                format!(in alloc; "the line is written {text}"),
             );
         }
     }
@@ -296,7 +296,7 @@ fn form_told(
     told(
         whole(row),
         format!(in alloc; "the line may not stand here, or a number of it is out of its range"),
-        format!(in alloc; "it is written `{text}`; {order}"),
+        format!(in alloc; "it is written {text}; {order}"),
     )
 }
 
@@ -340,7 +340,7 @@ pub fn teach_part(
 ) -> Result<Lesson, NoMemory> {
     match line_at(text, number) {
         Some(line) => {
-            let row = row_of(alloc, number, line)?;
+            let row = row_of(alloc, number, line.strip_suffix(b"\r").unwrap_or(line))?;
             row_told(alloc, &row, grammar)
         }
         None => {

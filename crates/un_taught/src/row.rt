@@ -60,9 +60,8 @@ fn line_of(alloc: Global, words: &[Word<'_>]) -> Result<Option<Line>, NoMemory> 
     read_line(alloc, forms.as_slice())
 }
 
-/// The line of this number.
-pub fn row_of(alloc: Global, number: usize, line: &[u8]) -> Result<Row<'_>, NoMemory> {
-    let bytes = before_comment(line);
+/// The line of this number with these bytes.
+pub fn row_of(alloc: Global, number: usize, bytes: &[u8]) -> Result<Row<'_>, NoMemory> {
     let words = words_of(alloc, bytes)?;
     let line = line_of(alloc, words.as_slice())?;
     Ok(Row {
@@ -79,7 +78,7 @@ pub fn rows_of(alloc: Global, text: &[u8]) -> Result<Items<Row<'_>>, NoMemory> {
     let mut number: usize = 0;
     for line in lines(text) {
         number = number.saturating_add(1);
-        rows.push(row_of(alloc, number, line)?)?;
+        rows.push(row_of(alloc, number, before_comment(line))?)?;
     }
     Ok(rows)
 }

@@ -165,13 +165,21 @@ fn use_lesson(
     let place = at_word(row, place);
     match name.1 {
         Kind::General => {
-            let wrong = format!(in alloc; "`%{shown}` is used here, and on a way to this line it is not assigned");
-            let help = format!(in alloc; "assign it on each way from the entry, as by `%{shown} = imm #0`, or make it a parameter");
+            let wrong = format!(in alloc;
+                "`%{shown}` is used here, and on a way to this line it is not assigned"
+            );
+            let help = format!(in alloc;
+                "assign it on each way from the entry, as by `%{shown} = imm #0`, or make it a parameter"
+            );
             told(place, wrong, help)
         }
         Kind::Pred => {
-            let wrong = format!(in alloc; "`${shown}` is used here, and on a way to this line it is not assigned");
-            let help = format!(in alloc; "assign it on each way from the entry by a comparison, as `${shown} = cmpgti %a, #0`");
+            let wrong = format!(in alloc;
+                "`${shown}` is used here, and on a way to this line it is not assigned"
+            );
+            let help = format!(in alloc;
+                "assign it on each way from the entry by a comparison, as `${shown} = cmpgti %a, #0`"
+            );
             told(place, wrong, help)
         }
     }
