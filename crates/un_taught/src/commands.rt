@@ -8,9 +8,7 @@ use un_commands::line::read_command;
 use un_outside::words::Word;
 
 /// The first words of commands.
-static COMMANDS: [&str; 10] = [
-    "alloc", "run", "check", "gen", "inspect", "build", "asm", "compare", "import", "sweep",
-];
+static COMMANDS: [&str; 7] = ["alloc", "run", "check", "gen", "asm", "inspect", "build"];
 
 /// The options of `alloc`.
 static OPTIONS: [&str; 6] = ["--nodes", "--regs", "--slots", "--all", "--json", "--out"];
@@ -67,9 +65,7 @@ fn first_advice(alloc: Global, words: &[Word]) -> Result<Advice, NoMemory> {
         }
         None => advised(
             wrong,
-            format!(in alloc;
-                "the commands are alloc, run, check, gen, inspect, build, asm, compare, import and sweep"
-            ),
+            format!(in alloc; "the commands are alloc, run, check, gen, asm, inspect and build"),
         ),
     }
 }
