@@ -1,5 +1,5 @@
 #!/usr/bin/env python3
-"""Functions to measure on, written as files NAME.uni into a folder: functions.py FOLDER. Kernels written by hand stand beside, in kernels/.
+"""Functions to measure on, written as files NAME.uni into a folder: functions.py FOLDER. Kernels written by hand stand in `kernels`.
 
 - `gen-S-Z`: functions drawn by a linear generator from seed S (0 to 9), with Z blocks (1, 2, 3, 4, 8 and 16).
 - `made-N-K`: functions of N operations (20 to 80) in one to eight blocks, with up to 40 names, loads, stores and calls, from a fixed seed.
@@ -133,7 +133,7 @@ def read(folders):
     """The functions of folders, the examples, the kernels and those above where none is named: the group, the name and the text of each."""
     if not folders:
         top = os.path.dirname(os.path.dirname(os.path.realpath(__file__)))
-        folders = [f"{top}/examples", f"{top}/bench/kernels", tempfile.mkdtemp(prefix="unison-functions-")]
+        folders = [f"{top}/examples", f"{top}/kernels", tempfile.mkdtemp(prefix="unison-functions-")]
         write(folders[-1])
     for folder in folders:
         for name in sorted(os.listdir(folder)):

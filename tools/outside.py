@@ -1,7 +1,7 @@
 #!/usr/bin/env python3
 """Runs printed code outside of this project: outside.py [FILE ..] has LLVM assemble and link it and an emulator run it.
 
-Of each FILE.uni (without files: the examples and bench/kernels) the report's assembly goes through llvm-mc, which is to say nothing,
+Of each FILE.uni (without files: the examples and kernels) the report's assembly goes through llvm-mc, which is to say nothing,
 is linked with a start-up that sets the registers and with stubs that give the replies of calls, and is run by qemu-hexagon from starts that
 are made here. Result, memory, kept registers and calls are compared with what `unison run` says of the source.
 
@@ -261,7 +261,7 @@ def try_source(outside, name, source, count):
 def main():
     files = sys.argv[1:]
     if not files:
-        files = sorted(glob.glob(f"{TOP}/examples/*.uni")) + sorted(glob.glob(f"{TOP}/bench/kernels/*.uni"))
+        files = sorted(glob.glob(f"{TOP}/examples/*.uni")) + sorted(glob.glob(f"{TOP}/kernels/*.uni"))
         # (two of the examples have a fault)
         files = [path for path in files if os.path.basename(path) not in ("loop.uni", "wide.uni")]
     count = Count()

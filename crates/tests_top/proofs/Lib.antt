@@ -1,2 +1,3 @@
+mod OtherTables
 mod PostRows
 mod WorkedModel

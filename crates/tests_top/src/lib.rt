@@ -13,6 +13,8 @@ mod firsts;
 #[cfg(test)]
 mod hostile;
 #[cfg(test)]
+mod machines;
+#[cfg(test)]
 mod posts;
 #[cfg(test)]
 mod reports;
