@@ -19,21 +19,21 @@ computed_form [] (Some range) = Literal
 computed_form (space ∷ spaces) (Some range) = WithLiteral
 
 abbrev pub form_by : Does → Form → Form
-form_by Computes computed = computed
-form_by Compares computed = computed
-form_by Moves computed = Copied
-form_by Loads computed = Loaded
-form_by Stores computed = Stored
-form_by Reloads computed = Reloaded
-form_by Spills computed = Spilled
-form_by OpensFrame computed = StackMoved
-form_by ClosesFrame computed = StackMoved
-form_by Calls computed = Called
-form_by (Jumps Always) computed = Jumped
-form_by (Jumps IfTrue) computed = JumpedIf
-form_by (Jumps IfFalse) computed = JumpedIfNot
-form_by Returns computed = Returned
-form_by Rests computed = Idle
+form_by Computes own = own
+form_by Compares own = own
+form_by Moves _ = Copied
+form_by Loads _ = Loaded
+form_by Stores _ = Stored
+form_by Reloads _ = Reloaded
+form_by Spills _ = Spilled
+form_by OpensFrame _ = StackMoved
+form_by ClosesFrame _ = StackMoved
+form_by Calls _ = Called
+form_by (Jumps Always) _ = Jumped
+form_by (Jumps IfTrue) _ = JumpedIf
+form_by (Jumps IfFalse) _ = JumpedIfNot
+form_by Returns _ = Returned
+form_by Rests _ = Idle
 
 -- the form of each operation
 abbrev pub form_of : Op → Form
