@@ -1,0 +1,9 @@
+pub mod Clauses
+pub mod Compaction
+pub mod Moving
+pub mod Pins
+pub mod Retiming
+pub mod Rising
+pub mod Sites
+pub mod Squeezing
+pub mod Times
