@@ -1,7 +1,7 @@
 //! The assembly of a report, which stands alone or behind the text of its function.
 
-use crate::answer::Answer;
 use std::alloc::Global;
+use un_answers::answer::Answer;
 use un_assembly::assembly::assembly;
 use un_outside::status::Status;
 use un_report::report::Answered;

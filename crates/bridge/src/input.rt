@@ -1,9 +1,10 @@
 //! From the input to the answer.
 
-use crate::answer::Answer;
 use crate::asm::asm;
+use crate::imported::imported;
 use crate::request::Request;
 use std::alloc::Global;
+use un_answers::answer::Answer;
 use un_outside::outside::Source;
 use un_outside::status::Status;
 use un_outside::transfer::{ReadAll, read_all};
@@ -28,14 +29,15 @@ fn read<S: Source>(alloc: Global, src: &mut S) -> Result<Vec<u8>, Status> {
 }
 
 /// What is asked for, of an input.
-fn answer_to(alloc: Global, asked: Request, input: &[u8]) -> Answer {
+fn answer_to(alloc: Global, asked: &Request<'_>, input: &[u8]) -> Answer {
     match asked {
         Request::Asm => asm(alloc, input),
+        Request::Import(name) => imported(alloc, input, *name),
     }
 }
 
 /// Reads the input, and answers what is asked for.
-pub fn answered<S: Source>(alloc: Global, asked: Request, src: &mut S) -> Answer {
+pub fn answered<S: Source>(alloc: Global, asked: &Request<'_>, src: &mut S) -> Answer {
     match read(alloc, src) {
         Ok(input) => answer_to(alloc, asked, input.as_slice()),
         Err(status) => Answer::failed(alloc, status),

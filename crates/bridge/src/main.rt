@@ -1,16 +1,16 @@
-//! A program beside `unison`: the way out to an assembler. It reads standard input; the first word says what
-//! is asked for, `asm` the assembly of a report.
+//! A program beside `unison`: the way out to an assembler, and the way in from a compiler. It reads standard input; the first word says what
+//! is asked for, `asm` the assembly of a report, `import` a function of LLVM's in the input language.
 #![tactic(auto)]
 
-mod answer;
 mod asm;
+mod imported;
 mod input;
 mod request;
 
-use crate::answer::{Answer, put_cause};
 use crate::input::answered;
 use crate::request::asked_for;
 use std::process::ExitCode;
+use un_answers::answer::{Answer, put_cause};
 use un_outside::files::{StdSink, StdSource};
 use un_outside::status::Status;
 use un_outside::transfer::write_all;
@@ -23,7 +23,7 @@ fn main(rt: HostRuntime) -> ExitCode {
     };
     let mut source = StdSource::new(rt.stdin());
     let answer = match asked_for(words.as_slice()) {
-        Ok(asked) => answered(rt.alloc(), asked, &mut source),
+        Ok(asked) => answered(rt.alloc(), &asked, &mut source),
         Err(word) => Answer::failed(rt.alloc(), Status::Usage { word }),
     };
     let mut out = StdSink::new(rt.stdout());

@@ -28,14 +28,35 @@ pub enum Binary {
     ShiftLeft,
     ShiftRight,
     ShiftSigned,
-    /// A division by a power of two, which rounds towards 0.
+    /// A division, which rounds towards 0.
     Divide,
     /// Its remainder.
     Remainder,
+    DivideUnsigned,
+    RemainderUnsigned,
     Least,
     Most,
     LeastUnsigned,
     MostUnsigned,
+    /// A sum of numbers without signs, the largest number where it is larger.
+    AddLimited,
+    /// A difference of numbers without signs, 0 where it is less.
+    SubLimited,
+}
+
+/// What is computed of the bits of a word.
+#[derive(Clone, Copy, PartialEq)]
+pub enum Bits {
+    /// How many are set.
+    Population,
+    /// How many stand before the first one that is set.
+    Leading,
+    /// How many stand behind the last one that is set.
+    Trailing,
+    /// The bits from the last to the first.
+    Reversed,
+    /// The bytes from the last to the first.
+    Swapped,
 }
 
 /// What holds of two values where a comparison is true.
@@ -83,6 +104,14 @@ pub struct Branch<'a> {
     pub weights: Option<(u32, u32)>,
 }
 
+/// What a call passes on: how many bits it has, and whether it is a number with a sign.
+#[derive(Clone, Copy)]
+pub struct Argument<'a> {
+    pub operand: Operand<'a>,
+    pub width: u32,
+    pub signed: bool,
+}
+
 /// What an instruction does.
 #[derive(Drop)]
 pub enum Action<'a> {
@@ -115,7 +144,20 @@ pub enum Action<'a> {
     },
     Call {
         callee: &'a [u8],
-        arguments: Vec<Operand<'a>>,
+        arguments: Vec<Argument<'a>>,
+    },
+    /// Copies so many bytes; where `overlaps`, the places may have bytes in common.
+    Copy {
+        to: Operand<'a>,
+        from: Operand<'a>,
+        bytes: Operand<'a>,
+        overlaps: bool,
+    },
+    /// Stores a byte so many times.
+    Fill {
+        to: Operand<'a>,
+        byte: Operand<'a>,
+        bytes: Operand<'a>,
     },
     /// The same value under another name.
     Same(Operand<'a>),
@@ -127,13 +169,18 @@ pub enum Action<'a> {
     },
     /// The low bits of a value.
     Narrow(Operand<'a>),
-    /// The bits of `high` and `low` side by side, shifted to the left; the upper half is kept.
+    /// The bits of `high` and `low` side by side, shifted to the left, of which the upper half is kept; or to the right, and the lower half.
     Funnel {
         high: Operand<'a>,
         low: Operand<'a>,
-        amount: u32,
+        amount: Operand<'a>,
+        right: bool,
     },
     Absolute(Operand<'a>),
+    Count {
+        what: Bits,
+        value: Operand<'a>,
+    },
     Jump(BlockId),
     Branch(Branch<'a>),
     Switch {
@@ -181,6 +228,8 @@ pub struct Function<'a> {
     pub parameters: Vec<Parameter>,
     /// How many bits its result has, 0 where it gives none.
     pub gives: u32,
+    /// Whether the result is a number with a sign, which fills its word.
+    pub signed: bool,
     /// The names of its values.
     pub names: Vec<&'a [u8]>,
     /// Its blocks, the first of which is entered first.

@@ -19,7 +19,7 @@ pub struct Read<'a> {
 }
 
 /// The instructions that compute something of two values.
-static BINARIES: [(&[u8], Binary); 11] = [
+static BINARIES: [(&[u8], Binary); 13] = [
     (b"add", Binary::Add),
     (b"sub", Binary::Sub),
     (b"mul", Binary::Mul),
@@ -31,6 +31,8 @@ static BINARIES: [(&[u8], Binary); 11] = [
     (b"ashr", Binary::ShiftSigned),
     (b"sdiv", Binary::Divide),
     (b"srem", Binary::Remainder),
+    (b"udiv", Binary::DivideUnsigned),
+    (b"urem", Binary::RemainderUnsigned),
 ];
 
 /// The relations by their words.
@@ -240,6 +242,10 @@ pub fn instruction<'a>(
     cursor: &mut Cursor<'_, 'a>,
 ) -> Result<Option<Read<'a>>, Refusal<'a>> {
     let line = cursor.line;
+    // (a record for a debugger)
+    if cursor.takes_mark(b'#') {
+        return Ok(None);
+    }
     let result = result_of(scope, cursor)?;
     cursor.skip_words(&[b"tail", b"musttail", b"notail"]);
     let word = cursor.word()?;

@@ -3,7 +3,7 @@
 use crate::cursor::Cursor;
 use crate::function::{Action, Operand, Scaled};
 use crate::lists::push;
-use crate::places::Scope;
+use crate::places::{Scope, alignment};
 use crate::refusal::{Missing, Refusal};
 use crate::token::Token;
 use crate::types::{Kind, TypeId};
@@ -95,6 +95,20 @@ pub fn locate<'a>(
     })
 }
 
+/// An address of a word, behind a type and a comma.
+fn word_address<'a>(
+    scope: &mut Scope<'a>,
+    cursor: &mut Cursor<'_, 'a>,
+) -> Result<Operand<'a>, Refusal<'a>> {
+    cursor.mark(b',')?;
+    let (_, address) = scope.typed(cursor)?;
+    cursor.takes_mark(b',');
+    match alignment(cursor) {
+        Some(align) if align % 4 != 0 => Err(cursor.lacks(Missing::Alignment)),
+        _ => Ok(address),
+    }
+}
+
 /// `load`, behind that word.
 pub fn load<'a>(
     scope: &mut Scope<'a>,
@@ -105,9 +119,7 @@ pub fn load<'a>(
     if width != 32 {
         return Err(cursor.lacks(Missing::Access));
     }
-    cursor.mark(b',')?;
-    let (_, address) = scope.typed(cursor)?;
-    Ok(Action::Load(address))
+    Ok(Action::Load(word_address(scope, cursor)?))
 }
 
 /// `store`, behind that word.
@@ -120,7 +132,6 @@ pub fn store<'a>(
     if width != 32 {
         return Err(cursor.lacks(Missing::Access));
     }
-    cursor.mark(b',')?;
-    let (_, address) = scope.typed(cursor)?;
+    let address = word_address(scope, cursor)?;
     Ok(Action::Store { address, value })
 }

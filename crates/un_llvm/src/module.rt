@@ -4,7 +4,7 @@ use crate::cursor::Cursor;
 use crate::function::{Action, Block, Function, Instruction, Parameter};
 use crate::instructions::{Read, instruction};
 use crate::lists::push;
-use crate::places::{Scope, skip_attributes};
+use crate::places::{Scope, attributes};
 use crate::refusal::{Missing, Refusal};
 use crate::statements::{Span, Statements, read_statements};
 use crate::token::{Token, number_of};
@@ -76,18 +76,32 @@ fn function_named<'a>(module: &Module<'a>, wanted: Option<&[u8]>) -> Option<Foun
     None
 }
 
-/// The types that the lines of a module name.
-fn types<'a>(alloc: Global, module: &Module<'a>) -> Result<Types<'a>, Refusal<'a>> {
-    let mut types = Types::new(alloc);
+/// How deep types are named within one another at most. (A type within another one may have its line behind that one's.)
+const DEPTH: u32 = 8;
+
+/// Reads the lines of a module that name types. What stands in a line that is not read is not known.
+fn name_types<'a>(module: &Module<'a>, types: &mut Types<'a>) -> Result<(), NoMemory> {
     for span in module.statements.spans.iter() {
         let mut cursor = module.cursor(span);
         let Some(Token::Local(name)) = cursor.take() else {
             continue;
         };
         if cursor.takes_mark(b'=') && cursor.takes_word(b"type") {
-            let kind = types.read(&mut cursor)?;
-            types.define(name, kind)?;
+            match types.read(&mut cursor) {
+                Ok(kind) => types.define(name, kind)?,
+                Err(Refusal::NoMemory) => return Err(NoMemory),
+                Err(_) => {}
+            }
         }
+    }
+    Ok(())
+}
+
+/// The types that the lines of a module name.
+fn types<'a>(alloc: Global, module: &Module<'a>) -> Result<Types<'a>, NoMemory> {
+    let mut types = Types::new(alloc);
+    for _ in 0..DEPTH {
+        name_types(module, &mut types)?;
     }
     Ok(types)
 }
@@ -110,7 +124,7 @@ fn parameter<'a>(
     cursor: &mut Cursor<'_, 'a>,
 ) -> Result<Parameter, Refusal<'a>> {
     let width = scope.types.read_width(cursor)?;
-    skip_attributes(cursor);
+    let _ = attributes(cursor);
     match cursor.take() {
         Some(Token::Local(name)) => Ok(Parameter {
             name: scope.name(name)?,
@@ -143,11 +157,19 @@ fn parameters<'a>(
     Ok(found)
 }
 
-/// How many bits the result of a function has whose first line this is; what stands before its parameters is taken.
-fn result_width<'a>(
+/// What a function gives.
+#[derive(Clone, Copy)]
+struct ResultShape {
+    width: u32,
+    signed: bool,
+}
+
+/// What a function gives whose first line this is; what stands before its parameters is taken.
+fn given<'a>(
     scope: &mut Scope<'a>,
     cursor: &mut Cursor<'_, 'a>,
-) -> Result<u32, Refusal<'a>> {
+) -> Result<ResultShape, Refusal<'a>> {
+    let mut signed = false;
     for _ in 0..cursor.left() {
         let mut ahead = *cursor;
         if let Ok(width) = scope.types.read_width(&mut ahead)
@@ -155,9 +177,13 @@ fn result_width<'a>(
         {
             cursor.taken = ahead.taken;
             cursor.mark(b'(')?;
-            return Ok(width);
+            return Ok(ResultShape { width, signed });
         }
-        let _ = cursor.take();
+        if cursor.takes_word(b"signext") {
+            signed = true;
+        } else {
+            let _ = cursor.take();
+        }
     }
     Err(cursor.lacks(Missing::Result))
 }
@@ -208,12 +234,17 @@ fn weights<'a>(module: &Module<'a>, name: &[u8]) -> Option<(u32, u32)> {
     None
 }
 
+/// Whether a text says that numbers behind it are weights, or that they come from what is expected.
+fn is_of_weights(text: &[u8]) -> bool {
+    text == b"branch_weights".as_slice() || text == b"expected".as_slice()
+}
+
 /// The first two numbers of a line that are weights.
 fn two_numbers(cursor: &Cursor<'_, '_>) -> Option<(u32, u32)> {
     let mut first: Option<u32> = None;
     for token in cursor.tokens {
         match (token, first) {
-            (Token::Text(text), _) if *text != b"branch_weights".as_slice() => return None,
+            (Token::Text(text), _) if !is_of_weights(text) => return None,
             (Token::Number(number), None) => first = u32::try_from(*number).ok(),
             (Token::Number(number), Some(first)) => {
                 return Some((first, u32::try_from(*number).ok()?));
@@ -325,7 +356,7 @@ pub fn function<'a>(
     };
     let mut scope = Scope::new(alloc, types(alloc, module)?, Vec::new(alloc));
     let mut cursor = module.cursor(span);
-    let gives = result_width(&mut scope, &mut cursor)?;
+    let given = given(&mut scope, &mut cursor)?;
     let parameters = parameters(&mut scope, &mut cursor)?;
     let body = body(module, &found);
     let first = first_label(&scope);
@@ -337,7 +368,8 @@ pub fn function<'a>(
         name: found.name,
         line: span.line,
         parameters,
-        gives,
+        gives: given.width,
+        signed: given.signed,
         names,
         blocks,
     })

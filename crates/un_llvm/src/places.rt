@@ -18,11 +18,19 @@ pub struct Scope<'a> {
     pub labels: Vec<&'a [u8]>,
 }
 
+/// What stands before a value and matters here.
+#[derive(Clone, Copy)]
+pub struct Told {
+    /// Whether a number of fewer bits fills a word with its sign.
+    pub signed: bool,
+    /// The number of bytes of which an address is a multiple, 1 where none is told.
+    pub align: u32,
+}
+
 /// Words that may stand before a value and say nothing that matters here.
-static ATTRIBUTES: [&[u8]; 13] = [
+static ATTRIBUTES: [&[u8]; 12] = [
     b"noundef",
     b"nonnull",
-    b"signext",
     b"zeroext",
     b"nocapture",
     b"readonly",
@@ -37,11 +45,11 @@ static ATTRIBUTES: [&[u8]; 13] = [
 
 /// Words that may stand before a value with a number or with something in brackets behind them.
 static MEASURED: [&[u8]; 5] = [
-    b"align",
     b"dereferenceable",
     b"dereferenceable_or_null",
     b"sret",
-    b"byval",
+    b"captures",
+    b"range",
 ];
 
 /// Takes one of the words with something behind them, and that.
@@ -57,16 +65,39 @@ fn skip_measured(cursor: &mut Cursor<'_, '_>) {
     }
 }
 
-/// Takes all that stands before a value and says nothing that matters here.
-pub fn skip_attributes(cursor: &mut Cursor<'_, '_>) {
+/// The number behind the word `align`, in brackets or not, where that word is next.
+pub fn alignment(cursor: &mut Cursor<'_, '_>) -> Option<u32> {
+    if !cursor.takes_word(b"align") {
+        return None;
+    }
+    let is_open = cursor.takes_mark(b'(');
+    let align = match cursor.take() {
+        Some(Token::Number(number)) => u32::try_from(number).unwrap_or(1),
+        _ => 1,
+    };
+    if is_open {
+        cursor.takes_mark(b')');
+    }
+    Some(align)
+}
+
+/// Takes all that stands before a value.
+pub fn attributes(cursor: &mut Cursor<'_, '_>) -> Told {
+    let mut found = Told {
+        signed: false,
+        align: 1,
+    };
     for _ in 0..cursor.left() {
         let before = cursor.left();
         cursor.skip_words(&ATTRIBUTES);
         skip_measured(cursor);
+        found.signed = cursor.takes_word(b"signext") || found.signed;
+        found.align = alignment(cursor).unwrap_or(found.align);
         if cursor.left() == before {
             break;
         }
     }
+    found
 }
 
 /// The place of a text among texts.
@@ -133,11 +164,13 @@ impl<'a> Scope<'a> {
     /// # Errors
     /// `Form` where none stands there, `Address` where it is made of the address of a variable.
     pub fn operand(&mut self, cursor: &mut Cursor<'_, 'a>) -> Result<Operand<'a>, Refusal<'a>> {
-        skip_attributes(cursor);
+        let _ = attributes(cursor);
         match cursor.take() {
             Some(Token::Local(name)) => Ok(Operand::Name(self.name(name)?)),
             Some(Token::Number(number)) => Ok(Operand::Number(number)),
             Some(Token::Global(name)) => Ok(Operand::Address(name)),
+            // (a structure as an argument)
+            Some(Token::Word(b"byval")) => Err(cursor.lacks_word(Missing::Type, b"byval")),
             Some(Token::Word(word)) => match constant(word) {
                 Some(number) => Ok(Operand::Number(number)),
                 None => Err(cursor.lacks_word(Missing::Address, word)),

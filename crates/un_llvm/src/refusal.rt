@@ -18,23 +18,29 @@ pub enum Missing {
     Instruction,
     /// A function of LLVM's own.
     Intrinsic,
-    /// A shift or a rotation whose amount is no constant.
-    VariableShift,
     /// The address of a variable or a function.
     Address,
     /// A call of no function by its name.
     Indirect,
+    /// A call that passes on as many arguments as it likes.
+    Variadic,
     /// More parameters or arguments than there are registers for them.
     Arguments,
     /// An access of something else than a word.
     Access,
+    /// An access of a word that may not lie at a multiple of four.
+    Alignment,
+    /// Memory that is copied or filled otherwise than by words.
+    Words,
+    /// More blocks, operations or names than a function may have.
+    Size,
     /// A name that is no name of the language.
     Name,
     /// A block that is not there.
     Block,
     /// A value that is not there.
     Value,
-    /// A result that is neither nothing nor a word.
+    /// A function whose result is not found.
     Result,
 }
 
@@ -49,11 +55,14 @@ impl Missing {
             Missing::Width => b"this is not done on numbers of so many bits",
             Missing::Instruction => b"there is nothing for this instruction",
             Missing::Intrinsic => b"there is nothing for this function of LLVM's own",
-            Missing::VariableShift => b"there are no shifts by a variable amount",
             Missing::Address => b"there are no addresses of variables and functions",
             Missing::Indirect => b"a call names the function that it calls",
+            Missing::Variadic => b"a function has a fixed number of arguments",
             Missing::Arguments => b"there are at most six parameters and arguments",
             Missing::Access => b"memory is read and written by words of 32 bits",
+            Missing::Alignment => b"words in memory lie at multiples of four",
+            Missing::Words => b"memory is copied and filled by words, at multiples of four",
+            Missing::Size => b"a function has at most 64 blocks, 400 operations and 120 names",
             Missing::Name => b"a name has 1 to 32 letters, digits, '_' and '.'",
             Missing::Block => b"there is no such block",
             Missing::Value => b"there is no such value",

@@ -23,6 +23,8 @@ pub enum Kind {
     Array(TypeId),
     /// Values side by side: the place of the first one among all fields, and their number.
     Record { first: usize, count: usize },
+    /// What functions are.
+    Function,
     /// A type of which nothing is known.
     Other,
 }
@@ -75,12 +77,23 @@ const OTHER: Shape = Shape {
     align: 1,
 };
 
+/// A function.
+const FUNCTION: Shape = Shape {
+    kind: Kind::Function,
+    ..OTHER
+};
+
 /// An address.
 const POINTER: Shape = Shape {
     kind: Kind::Pointer,
     size: 4,
     align: 4,
 };
+
+/// Whether it is not known how many bytes a type takes.
+fn is_unknown(shape: Shape) -> bool {
+    shape.size == 0 && matches!(shape.kind, Kind::Other | Kind::Function)
+}
 
 /// How many bytes a number of so many bits takes.
 fn bytes_of(bits: u32) -> u32 {
@@ -94,6 +107,9 @@ fn bytes_of(bits: u32) -> u32 {
 
 /// The type of numbers of so many bits.
 fn integer(bits: u32) -> Shape {
+    if bits > 64 {
+        return OTHER;
+    }
     let size = bytes_of(bits);
     Shape {
         kind: Kind::Integer(bits),
@@ -172,8 +188,14 @@ impl<'a> Types<'a> {
         self.fields.get(first.saturating_add(place)).copied()
     }
 
-    /// Says what a name stands for.
+    /// Says what a name stands for, from now on.
     pub fn define(&mut self, name: &'a [u8], kind: TypeId) -> Result<(), NoMemory> {
+        for named in self.named.iter_mut() {
+            if named.name == name {
+                named.kind = kind;
+                return Ok(());
+            }
+        }
         push(&mut self.named, Named { name, kind })
     }
 
@@ -196,7 +218,11 @@ impl<'a> Types<'a> {
 
     /// A row of so many values of a type.
     fn array(&mut self, count: u32, element: TypeId) -> Result<TypeId, NoMemory> {
-        let Shape { size, align, .. } = self.shape(element);
+        let shape = self.shape(element);
+        if is_unknown(shape) {
+            return self.add(OTHER);
+        }
+        let Shape { size, align, .. } = shape;
         self.add(Shape {
             kind: Kind::Array(element),
             size: size.saturating_mul(count),
@@ -211,6 +237,9 @@ impl<'a> Types<'a> {
         let mut most: u32 = 1;
         for kind in kinds {
             let shape = self.shape(*kind);
+            if is_unknown(shape) {
+                return self.add(OTHER);
+            }
             let offset = rounded(size, shape.align);
             let field = Field {
                 offset,
@@ -299,7 +328,7 @@ impl<'a> Types<'a> {
                 whole = Some(self.add(POINTER)?);
             } else if cursor.takes_mark(b'(') {
                 cursor.skip_parentheses();
-                whole = Some(self.add(OTHER)?);
+                whole = Some(self.add(FUNCTION)?);
             } else if let Some(last) = open.pop() {
                 whole = self.close(cursor, &mut open, last, part)?;
             } else {
@@ -323,6 +352,8 @@ impl<'a> Types<'a> {
             Kind::Void => Ok(0),
             Kind::Pointer => Ok(32),
             Kind::Integer(bits) if bits >= 1 && bits <= 32 => Ok(bits),
+            // (a call has the whole type of a function where the number of its arguments varies)
+            Kind::Function => Err(cursor.lacks(Missing::Variadic)),
             _ => Err(cursor.lacks_word(Missing::Type, about)),
         }
     }

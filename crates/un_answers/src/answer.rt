@@ -1,4 +1,4 @@
-//! What a run of the program comes to: a text for standard output, what is told on standard error, and how it ends.
+//! What a run of a program comes to: a text for standard output, what is told on standard error, and how it ends.
 
 use std::alloc::Global;
 use un_base::memory_error::NoMemory;
@@ -28,9 +28,14 @@ impl Answer {
 
     /// No output, for this cause.
     pub fn failed(alloc: Global, status: Status) -> Answer {
+        Answer::told(alloc, Vec::new(alloc), status)
+    }
+
+    /// No output, for a cause that is told in words.
+    pub fn told(alloc: Global, told: Vec<u8>, status: Status) -> Answer {
         Answer {
             out: Vec::new(alloc),
-            told: Vec::new(alloc),
+            told,
             status,
         }
     }
@@ -43,14 +48,20 @@ fn put_numbered(out: &mut Vec<u8>, before: &[u8], number: u32) -> Result<(), NoM
     put_text(out, b"\n")
 }
 
-/// Appends the line for a status; a status whose cause was told has none.
-pub fn put_cause(out: &mut Vec<u8>, status: Status) -> Result<(), NoMemory> {
+/// Appends the line for a status to what is told; a fault of a text that was told in words has none.
+///
+/// # Errors
+/// `NoMemory` where there is no memory for the line.
+pub fn put_cause(told: &mut Vec<u8>, status: Status) -> Result<(), NoMemory> {
     match status {
-        Status::Usage { word } => put_numbered(out, b"usage: word ", word),
-        Status::BadReport { line } => put_numbered(out, b"bad report: line ", line),
-        Status::ReadFault => put_text(out, b"read fault\n"),
-        Status::WriteFault => put_text(out, b"write fault\n"),
-        Status::NoMemory => put_text(out, b"no memory\n"),
+        Status::Usage { word } => put_numbered(told, b"usage: word ", word),
+        Status::TextFault { line, .. } if told.is_empty() => {
+            put_numbered(told, b"bad function: line ", line)
+        }
+        Status::BadReport { line } => put_numbered(told, b"bad report: line ", line),
+        Status::ReadFault => put_text(told, b"read fault\n"),
+        Status::WriteFault => put_text(told, b"write fault\n"),
+        Status::NoMemory => put_text(told, b"no memory\n"),
         _ => Ok(()),
     }
 }

@@ -1,0 +1,2 @@
+_Bool ask(int);
+_Bool asked(int a) { return !ask(a) || a > 3; }

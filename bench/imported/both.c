@@ -1,0 +1,1 @@
+int both(int a, int b) { return (a > b) ^ (b > 100); }

@@ -1,0 +1,1 @@
+int byte_load(const unsigned char *x) { return x[0] + x[1]; }

@@ -1,0 +1,1 @@
+float real(float a, float b) { return a * b; }

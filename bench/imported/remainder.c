@@ -1,0 +1,8 @@
+unsigned remainder(unsigned a, unsigned b) {
+  while (b != 0) {
+    unsigned rest = a % b;
+    a = b;
+    b = rest;
+  }
+  return a;
+}

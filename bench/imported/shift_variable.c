@@ -1,0 +1,1 @@
+int shift_variable(int x, int n) { return (x << (n & 31)) + (x >> (n & 31)); }

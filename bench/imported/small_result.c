@@ -1,0 +1,1 @@
+short small_result(int a, int b) { return a - b; }

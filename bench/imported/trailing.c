@@ -1,0 +1,1 @@
+int trailing(unsigned x) { return __builtin_ffs(x); }

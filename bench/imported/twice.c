@@ -1,0 +1,1 @@
+int twice(int(*unused), int a) { return a + a; }

@@ -1,0 +1,4 @@
+//! What runs of the programs beside `unison` come to.
+#![tactic(auto)]
+
+pub mod answer;
