@@ -1,0 +1,141 @@
+//! From the parts of an input to the answer.
+
+use crate::compared::put_compared;
+use std::alloc::Global;
+use un_answers::answer::Answer;
+use un_base::memory_error::NoMemory;
+use un_foreign::listing::Listing;
+use un_foreign::plain::put_listing;
+use un_foreign::reader::{Unread, read_listing};
+use un_foreign::starts::put_starts;
+use un_foreign::text::at_rule;
+use un_foreign::unread::put_unread;
+use un_ir::function::Function;
+use un_ir::text::put_text;
+use un_outside::outside::Source;
+use un_outside::status::Status;
+use un_outside::transfer::{ReadAll, read_all};
+use un_reader::error::ReadError;
+use un_reader::read::read_function;
+
+/// What is asked for.
+#[derive(Clone, Copy)]
+pub enum Asked {
+    /// A comparison of a listing with a function and its report.
+    Comparison,
+    /// The listing in the spelling that `alloc` prints.
+    Plain,
+    /// Starts for the function, parted by lines `---`.
+    Starts,
+}
+
+/// How many bytes an input may have.
+const INPUT: usize = 16_777_216;
+
+/// The code of a text that is too long.
+const TOO_MANY: u8 = 13;
+
+/// The parts of an input.
+#[derive(Clone, Copy)]
+struct Parts<'a> {
+    function: &'a [u8],
+    report: &'a [u8],
+    listing: &'a [u8],
+}
+
+/// The parts of an input; None where there is no listing.
+fn parts_of(input: &[u8]) -> Option<Parts<'_>> {
+    let first = at_rule(input)?;
+    let second = at_rule(first.behind)?;
+    Some(Parts {
+        function: first.front,
+        report: second.front,
+        listing: second.behind,
+    })
+}
+
+/// The bytes of a source.
+pub fn read<S: Source>(alloc: Global, src: &mut S) -> Result<Vec<u8>, Status> {
+    match read_all(alloc, src, INPUT) {
+        Ok(input) => Ok(input),
+        Err(ReadAll::ReadFault) => Err(Status::ReadFault),
+        Err(ReadAll::TooLong) => Err(Status::TextFault {
+            line: 0,
+            code: TOO_MANY,
+        }),
+        Err(ReadAll::NoMemory) => Err(Status::NoMemory),
+    }
+}
+
+/// What is told where a listing is not read.
+fn unread(alloc: Global, listing: &[u8], why: Unread) -> Answer {
+    match why {
+        Unread::NoMemory => Answer::failed(alloc, Status::NoMemory),
+        Unread::Line { line, why } => {
+            let mut told = Vec::new(alloc);
+            let _ = put_unread(&mut told, listing, line, why);
+            Answer::told(alloc, told, Status::BadReport { line })
+        }
+    }
+}
+
+/// Appends what is asked for of a listing.
+fn put_asked(
+    alloc: Global,
+    out: &mut Vec<u8>,
+    asked: Asked,
+    f: &Function,
+    listing: &Listing<'_>,
+    report: &[u8],
+) -> Result<(), NoMemory> {
+    match asked {
+        Asked::Comparison => put_compared(alloc, out, f, listing, report),
+        Asked::Plain => put_listing(out, listing, f),
+        Asked::Starts => put_starts(out, f),
+    }
+}
+
+/// What is asked for of a function's listing and its report.
+fn text_of(
+    alloc: Global,
+    asked: Asked,
+    f: &Function,
+    parts: &Parts<'_>,
+) -> Result<Vec<u8>, Unread> {
+    let listing = read_listing(alloc, f, parts.listing)?;
+    let mut out = Vec::new(alloc);
+    put_asked(alloc, &mut out, asked, f, &listing, parts.report)?;
+    Ok(out)
+}
+
+/// The answer for a function.
+fn of_function(alloc: Global, asked: Asked, f: &Function, parts: &Parts<'_>) -> Answer {
+    match text_of(alloc, asked, f, parts) {
+        Ok(out) => Answer::done(alloc, out),
+        Err(why) => unread(alloc, parts.listing, why),
+    }
+}
+
+/// What is told where an input has no listing.
+fn no_listing(alloc: Global) -> Answer {
+    let mut told = Vec::new(alloc);
+    let _ = put_text(
+        &mut told,
+        b"the input has a function, its report and a listing, parted by lines `---`\n",
+    );
+    Answer::told(alloc, told, Status::BadReport { line: 1 })
+}
+
+/// What is asked for of an input.
+pub fn answer_to(alloc: Global, asked: Asked, input: &[u8]) -> Answer {
+    let Some(parts) = parts_of(input) else {
+        return no_listing(alloc);
+    };
+    match read_function(alloc, parts.function) {
+        Ok(f) => of_function(alloc, asked, &f, &parts),
+        Err(ReadError::NoMemory) => Answer::failed(alloc, Status::NoMemory),
+        Err(ReadError::TextFault { line, code }) => {
+            Answer::failed(alloc, Status::TextFault { line, code })
+        }
+    }
+}
