@@ -10,15 +10,15 @@ use Rattle.un_words.specs.Shapes.{line_of}
 use Rattle.un_faults.specs.TextFaults.{shape_fault}
 use Rattle.un_faults.specs.Vocabulary.{General, Line, Block, Operation, Spelled}
 
--- ---- lines, behind 40 names and 16 labels of one letter each
+-- ---- lines, behind 120 names and 64 labels of one letter each
 
 abbrev letters : List (List ℕ)
-letters = map (λ (n : ℕ). n ∷ []) (range_with_len 65 40)
+letters = map (λ (n : ℕ). n ∷ []) (range_with_len 65 120)
 
 abbrev full : Before
 full = record {
   name = Some (codes "f");
-  labels = map (λ (n : ℕ). n ∷ []) (range_with_len 65 16);
+  labels = map (λ (n : ℕ). n ∷ []) (range_with_len 65 64);
   names = map (λ (name : List ℕ). let spelled : Spelled = (name, General) in spelled) letters;
   ops = 40;
   ended = false;
@@ -46,7 +46,7 @@ many_before_wide = refl
 wide : shaped_fault full (Some (imm (codes "A") 40000)) ≡ Some WideLiteral
 wide = refl
 
--- a 17th block, with a frequency of 0 and a label that stands twice
+-- a 65th block, with a frequency of 0 and a label that stands twice
 many_before_frequency_and_label : shaped_fault full (Some (Block (codes "A") (record { negative = false; size = 0 }))) ≡ Some TooMany
 many_before_frequency_and_label = refl
 

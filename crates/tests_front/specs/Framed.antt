@@ -7,10 +7,10 @@ use Rattle.un_packet.specs.declared.code.Packet.{Packet}
 use Rattle.un_packet.specs.declared.code.CodeBlock.{CodeBlock}
 
 abbrev pub down : Instr
-down = record { op = Enter; dst = None; srcs = []; imm = negsuc 255; label = None }
+down = record { op = Enter; dst = None; srcs = []; imm = negsuc 1023; label = None }
 
 abbrev pub up : Instr
-up = record { op = Leave; dst = None; srcs = []; imm = pos 256; label = None }
+up = record { op = Leave; dst = None; srcs = []; imm = pos 1024; label = None }
 
 abbrev pub back : Instr
 back = record { op = Jumpr; dst = None; srcs = record { 0 = LINK } ∷ []; imm = pos 0; label = None }

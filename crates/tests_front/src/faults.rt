@@ -142,18 +142,36 @@ static ROWS: &[u8] = b"# Third lines of a text.\
 |func f\nblock e freq 1\n%a = mov %b\njump e?fault:4 9\
 |func f\nblock e freq 1\nret\nblock x freq 1\nret %b?fault:5 11\
 |# Texts at the limits and past them: a head, how often a line stands, that line before its number and behind it, and an end.\
-|func f\n^16^block b^freq 1\nret^?repeated:0 0\
-|func f\n^17^block b^freq 1\nret^?repeated:34 13\
-|func f\n^16^block b^freq 1\nret^block b0 freq 0?repeated:34 13\
+|func f\n^64^block b^freq 1\nret^?repeated:0 0\
+|func f\n^65^block b^freq 1\nret^?repeated:130 13\
+|func f\n^64^block b^freq 1\nret^block b0 freq 0?repeated:130 13\
+|func f\n^16^block b^freq 1^ret?repeated:0 0\
+|func f\n^63^block b^freq 1^ret?repeated:0 0\
+|func f\n^64^block b^freq 1^ret?repeated:0 0\
+|func f\n^66^block b^freq 1^ret?repeated:66 13\
 |func f\nblock e freq 1\n^40^%x^= imm #1^ret?repeated:0 0\
-|func f\nblock e freq 1\n^41^%x^= imm #1^ret?repeated:43 13\
-|func f\nblock e freq 1\n^40^%x^= imm #1^%y = imm #99999?repeated:43 13\
-|func f\nblock e freq 1\n^41^%x^= imm #99999^ret?repeated:3 3\
+|func f\nblock e freq 1\n^41^%x^= imm #1^ret?repeated:0 0\
+|func f\nblock e freq 1\n^40^%x^= imm #1^$p = cmpeq %x0, %x0\nret?repeated:0 0\
+|func f\nblock e freq 1\n^118^%x^= imm #1^$p = cmpeq %x0, %x0\nret?repeated:0 0\
+|func f\nblock e freq 1\n^120^%x^= imm #1^ret?repeated:0 0\
+|func f\nblock e freq 1\n^121^%x^= imm #1^ret?repeated:123 13\
+|func f\nblock e freq 1\n^120^%x^= imm #1^$p = cmpeq %x0, %x0\nret?repeated:123 13\
+|func f\nblock e freq 1\n^120^%x^= imm #1^%y = imm #99999?repeated:123 13\
+|func f\nblock e freq 1\n^121^%x^= imm #99999^ret?repeated:3 3\
 |func f %a\nblock e freq 1\n^80^%a = addi %a, #^^ret?repeated:0 0\
-|func f %a\nblock e freq 1\n^81^%a = addi %a, #^^ret?repeated:83 13\
-|func f %a\nblock e freq 1\n^80^%a = addi %a, #^^%a = imm #99999?repeated:83 13\
-|# A text that is filled with line feeds may have 65,536 bytes and no more.\
-|func f\nblock e freq 1\nret\n?up to 65536:0 0|&?up to 65537:0 13\
+|func f %a\nblock e freq 1\n^81^%a = addi %a, #^^ret?repeated:0 0\
+|func f\nblock e freq 1\n^400^%a = imm #^^ret?repeated:0 0\
+|func f\nblock e freq 1\n^401^%a = imm #^^ret?repeated:403 13\
+|func f\nblock e freq 1\n^400^%a = imm #^^%a = imm #99999?repeated:403 13\
+|func f\nblock e freq 1\n%a = imm #1\nblock g freq 1\n^80^%a = imm #^^ret?repeated:0 0\
+|func f\nblock e freq 1\n%a = imm #1\nblock g freq 1\n^398^%a = imm #^^ret?repeated:0 0\
+|func f\nblock e freq 1\n%a = imm #1\nblock g freq 1\n^400^%a = imm #^^ret?repeated:404 13\
+|func f\nblock e freq 1\n%a = imm #1\nblock g freq 1\n^401^%a = imm #^^ret?repeated:404 13\
+|func f %a %b %c %d %e %f\nblock e freq 1\nret?fault:0 0\
+|func f %a %b %c %d %e %f %g\nblock e freq 1\nret?fault:1 13\
+|# A text that is filled with line feeds may have 262,144 bytes and no more.\
+|?up to 262144:262145 6|&?up to 262145:0 13\
+|func f\nblock e freq 1\nret\n?up to 65537:0 0|&?up to 262144:0 0\
 |# Functions, and the one spelling of each.
 |; the dot product
 func dot %x\t%y  %n

@@ -26,12 +26,12 @@ fn instr(op: Op, srcs: Few<Reg>, imm: i32) -> Instr
     }
 }
 
-/// `{ r29 = add(r29,#-256) }`
+/// `{ r29 = add(r29,#-1024) }`
 fn entering(alloc: Global) -> Result<Packet, NoMemory>
     ensures { IfOk result (λ p. p ≡ entering) }
 {
     let mut instrs = Items::new(alloc);
-    instrs.push(instr(Op::Enter, Few::new(alloc), -256))?;
+    instrs.push(instr(Op::Enter, Few::new(alloc), -1024))?;
     Ok(Packet { instrs })
 }
 
@@ -44,12 +44,12 @@ fn back(alloc: Global) -> Result<Instr, NoMemory>
     Ok(instr(Op::Jumpr, srcs, 0))
 }
 
-/// `{ r29 = add(r29,#256); jumpr r31 }`
+/// `{ r29 = add(r29,#1024); jumpr r31 }`
 fn leaving(alloc: Global) -> Result<Packet, NoMemory>
     ensures { IfOk result (λ p. p ≡ leaving) }
 {
     let mut instrs = Items::new(alloc);
-    instrs.push(instr(Op::Leave, Few::new(alloc), 256))?;
+    instrs.push(instr(Op::Leave, Few::new(alloc), 1024))?;
     instrs.push(back(alloc)?)?;
     Ok(Packet { instrs })
 }
@@ -77,11 +77,14 @@ fn packets(alloc: Global) -> Result<Items<Packet>, NoMemory>
 /// Both packets under a label.
 pub(crate) fn framed_code(alloc: Global) -> Result<Code, NoMemory>
     ensures blocks { IfOk result (λ c. c.blocks ≡ framed) }
-    ensures frame { IfOk result (λ c. c.frame ≡ 256) }
+    ensures frame { IfOk result (λ c. c.frame ≡ 1024) }
 {
     let packets = packets(alloc)?;
     let mut blocks = Items::new(alloc);
     let label = label();
     blocks.push(CodeBlock { label, packets })?;
-    Ok(Code { frame: 256, blocks })
+    Ok(Code {
+        frame: 1024,
+        blocks,
+    })
 }

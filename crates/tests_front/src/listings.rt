@@ -8,6 +8,7 @@ use crate::starts::start;
 use std::alloc::Global;
 use un_base::memory_error::NoMemory;
 use un_ir::text::{put_number, put_text};
+use un_isa::reg::FRAME;
 use un_isa::start::Start;
 use un_isa::table::hexagon;
 use un_listing::print::print_code;
@@ -94,7 +95,9 @@ cycles 2
 |# Lines, and the frames that they are read as.\
 |frame 0\n?frame:0\
 |frame 256\n?frame:256\
-|frame 264\n?frame:none\
+|frame 264\n?frame:264\
+|frame 1024\n?frame:1024\
+|frame 1032\n?frame:none\
 |frame 12\n?frame:none\
 |frame 08\n?frame:none\
 |frame 8?frame:none\
@@ -251,7 +254,7 @@ fn put_line(alloc: Global, out: &mut Vec<u8>, line: &[u8]) -> Result<(), NoMemor
 
 /// Appends the frame that a line is read as.
 fn put_frame(out: &mut Vec<u8>, line: &[u8]) -> Result<(), NoMemory> {
-    match read_frame(line) {
+    match read_frame(line, FRAME) {
         Some(frame) => put_number(out, u64::from(frame)),
         None => put_text(out, b"none"),
     }

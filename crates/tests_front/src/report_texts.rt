@@ -1,6 +1,6 @@
 //! Texts of reports: read back and printed again, and their first bad lines.
 
-use crate::rows::{About, all_answered, number_at};
+use crate::rows::{About, all_answered, cut, number_at};
 use std::alloc::Global;
 use un_base::memory_error::NoMemory;
 use un_ir::text::{put_number, put_text};
@@ -8,7 +8,8 @@ use un_report::print::print_report;
 use un_report_reader::error::ReportError;
 use un_report_reader::read::{read_report, read_view};
 
-/// Texts, each with its first bad line, or that it is printed again as it stands.
+/// Texts, each with its first bad line, or that it is printed again as it stands; `line` has another line of a number, and `many` so many
+/// open leaves and the end behind the text.
 static ROWS: &[u8] =
     b"# The report of the smallest function, its first lines alone, and reports that were altered, read by another program from the rules.\
 |unison 1\nfunction f\nmodel regs all slots 64 nodes 2000\nanswer code\ncost 1\nbound 1\nlisting 3\nframe 0\nblock e\n{ jumpr r31 }\nsolution 124\n16 17 18 19 20 21 22 23 24 25 26 27 31 0 0 0\n0 0 0 0 0 0 0 0 0 0 0 0 0 0 0 0\n0 0 0 0 0 0 0 0 0 0 0 0 0 0 0 0\n0 0 0 0 0 0 0 0 0 0 0 0 1 0 0 0\n0 0 0 0 0 0 0 0 0 0 0 0 0 0 0 0\n0 0 0 0 0 0 0 0 0 0 0 0 0 0 0 0\n0 0 0 0 0 0 0 0 0 0 0 0 0 0 0 0\n0 0 0 0 0 0 0 0 0 0 2 0\ntree 1\nC\nend\n?same:yes\
@@ -82,7 +83,72 @@ static ROWS: &[u8] =
 |unison 1\nfunction f\nmodel regs all slots 64 nodes 2000\nanswer code\ncost 1\nbound 1\nlisting 1\nframe 0\nblock e\n{ jumpr r31 }\nsolution 124\n16 17 18 19 20 21 22 23 24 25 26 27 31 0 0 0\n0 0 0 0 0 0 0 0 0 0 0 0 0 0 0 0\n0 0 0 0 0 0 0 0 0 0 0 0 0 0 0 0\n0 0 0 0 0 0 0 0 0 0 0 0 1 0 0 0\n0 0 0 0 0 0 0 0 0 0 0 0 0 0 0 0\n0 0 0 0 0 0 0 0 0 0 0 0 0 0 0 0\n0 0 0 0 0 0 0 0 0 0 0 0 0 0 0 0\n0 0 0 0 0 0 0 0 0 0 2 0\ntree 1\nC\nend\n?read:bad 9\
 |unison 1\nfunction f\nmodel regs all slots 64 nodes 2000\nanswer code\ncost 1\nbound 1\nlisting 0\nframe 0\nblock e\n{ jumpr r31 }\nsolution 124\n16 17 18 19 20 21 22 23 24 25 26 27 31 0 0 0\n0 0 0 0 0 0 0 0 0 0 0 0 0 0 0 0\n0 0 0 0 0 0 0 0 0 0 0 0 0 0 0 0\n0 0 0 0 0 0 0 0 0 0 0 0 1 0 0 0\n0 0 0 0 0 0 0 0 0 0 0 0 0 0 0 0\n0 0 0 0 0 0 0 0 0 0 0 0 0 0 0 0\n0 0 0 0 0 0 0 0 0 0 0 0 0 0 0 0\n0 0 0 0 0 0 0 0 0 0 2 0\ntree 1\nC\nend\n?read:bad 8\
 |unison 1\nfunction f\nmodel regs all slots 64 nodes 2000\nanswer code\ncost 1\nbound 1\nlisting 4\nframe 0\nblock e\n{ jumpr r31 }\nsolution 124\n16 17 18 19 20 21 22 23 24 25 26 27 31 0 0 0\n0 0 0 0 0 0 0 0 0 0 0 0 0 0 0 0\n0 0 0 0 0 0 0 0 0 0 0 0 0 0 0 0\n0 0 0 0 0 0 0 0 0 0 0 0 1 0 0 0\n0 0 0 0 0 0 0 0 0 0 0 0 0 0 0 0\n0 0 0 0 0 0 0 0 0 0 0 0 0 0 0 0\n0 0 0 0 0 0 0 0 0 0 0 0 0 0 0 0\n0 0 0 0 0 0 0 0 0 0 2 0\ntree 1\nC\nend\n?read:bad 11\
-|unison 1\nfunction f\nmodel regs all slots 64 nodes 2000\nanswer code\ncost 1\nbound 1\nlisting 3\nframe 0\nblock e\n{ jumpr r31 }\nsolution 124\n16 17 18 19 20 21 22 23 24 25 26 27 31 0 0 0\n0 0 0 0 0 0 0 0 0 0 0 0 0 0 0 0\n0 0 0 0 0 0 0 0 0 0 0 0 0 0 0 0\n0 0 0 0 0 0 0 0 0 0 0 0 1 0 0 0\n0 0 0 0 0 0 0 0 0 0 0 0 0 0 0 0\n0 0 0 0 0 0 0 0 0 0 0 0 0 0 0 0\n0 0 0 0 0 0 0 0 0 0 0 0 0 0 0 0\n0 0 0 0 0 0 0 0 0 0 2 0\ntree 1\nC\nend\n?same:yes";
+|unison 1\nfunction f\nmodel regs all slots 64 nodes 2000\nanswer code\ncost 1\nbound 1\nlisting 3\nframe 0\nblock e\n{ jumpr r31 }\nsolution 124\n16 17 18 19 20 21 22 23 24 25 26 27 31 0 0 0\n0 0 0 0 0 0 0 0 0 0 0 0 0 0 0 0\n0 0 0 0 0 0 0 0 0 0 0 0 0 0 0 0\n0 0 0 0 0 0 0 0 0 0 0 0 1 0 0 0\n0 0 0 0 0 0 0 0 0 0 0 0 0 0 0 0\n0 0 0 0 0 0 0 0 0 0 0 0 0 0 0 0\n0 0 0 0 0 0 0 0 0 0 0 0 0 0 0 0\n0 0 0 0 0 0 0 0 0 0 2 0\ntree 1\nC\nend\n?same:yes\
+|# What a version may have, by reports with one line in place of another.\
+|unison 1\nfunction f\nmodel regs all slots 64 nodes 2000\nanswer code\ncost 1\nbound 1\nlisting 3\nframe 0\nblock e\n{ jumpr r31 }\nsolution 124\n16 17 18 19 20 21 22 23 24 25 26 27 31 0 0 0\n0 0 0 0 0 0 0 0 0 0 0 0 0 0 0 0\n0 0 0 0 0 0 0 0 0 0 0 0 0 0 0 0\n0 0 0 0 0 0 0 0 0 0 0 0 1 0 0 0\n0 0 0 0 0 0 0 0 0 0 0 0 0 0 0 0\n0 0 0 0 0 0 0 0 0 0 0 0 0 0 0 0\n0 0 0 0 0 0 0 0 0 0 0 0 0 0 0 0\n0 0 0 0 0 0 0 0 0 0 2 0\ntree 1\nC\nend\n?same:yes\
+|&?line 1 unison 0:bad 1\
+|&?line 1 unison 3:bad 1\
+|&?line 1 unison 01:bad 1\
+|&?line 1 unison 02:bad 1\
+|&?line 1 unison 257:bad 1\
+|&?line 1 unison 258:bad 1\
+|&?line 1 unison:bad 1\
+|&?line 1 unison :bad 1\
+|&?line 1 unison 18446744073709551617:bad 1\
+|&?line 1 unison 2:yes\
+|&?line 3 model regs all slots 0 nodes 1:yes\
+|&?line 3 model regs all slots 63 nodes 1:yes\
+|&?line 3 model regs all slots 65 nodes 1:bad 3\
+|&?line 3 model regs all slots 255 nodes 1:bad 3\
+|&?line 3 model regs all slots 256 nodes 1:bad 3\
+|&?line 3 model regs all slots 257 nodes 1:bad 3\
+|&?line 3 model regs all slots 64 nodes 200000:yes\
+|&?line 3 model regs all slots 64 nodes 200001:bad 3\
+|&?line 8 frame 248:yes\
+|&?line 8 frame 256:yes\
+|&?line 8 frame 260:bad 8\
+|&?line 8 frame 264:bad 8\
+|&?line 8 frame 1024:bad 8\
+|&?line 8 frame 1032:bad 8\
+|&?line 20 tree 0:bad 20\
+|&?line 20 tree 200000:bad 22\
+|&?line 20 tree 200001:bad 20\
+|&?line 20 tree 400000:bad 20\
+|&?line 21 S:bad 21\
+|&?line 21 P -:bad 21\
+|unison 2\nfunction f\nmodel regs all slots 256 nodes 2000\nanswer code\ncost 1\nbound 1\nlisting 3\nframe 0\nblock e\n{ jumpr r31 }\nsolution 124\n16 17 18 19 20 21 22 23 24 25 26 27 31 0 0 0\n0 0 0 0 0 0 0 0 0 0 0 0 0 0 0 0\n0 0 0 0 0 0 0 0 0 0 0 0 0 0 0 0\n0 0 0 0 0 0 0 0 0 0 0 0 1 0 0 0\n0 0 0 0 0 0 0 0 0 0 0 0 0 0 0 0\n0 0 0 0 0 0 0 0 0 0 0 0 0 0 0 0\n0 0 0 0 0 0 0 0 0 0 0 0 0 0 0 0\n0 0 0 0 0 0 0 0 0 0 2 0\ntree 1\nC\nend\n?same:yes\
+|&?line 1 unison 0:bad 1\
+|&?line 1 unison 3:bad 1\
+|&?line 1 unison 01:bad 1\
+|&?line 1 unison 02:bad 1\
+|&?line 1 unison 257:bad 1\
+|&?line 1 unison 258:bad 1\
+|&?line 1 unison:bad 1\
+|&?line 1 unison :bad 1\
+|&?line 1 unison 18446744073709551617:bad 1\
+|&?line 1 unison 1:bad 3\
+|&?line 3 model regs all slots 63 nodes 1:yes\
+|&?line 3 model regs all slots 64 nodes 1:yes\
+|&?line 3 model regs all slots 65 nodes 1:yes\
+|&?line 3 model regs all slots 255 nodes 1:yes\
+|&?line 3 model regs all slots 257 nodes 1:bad 3\
+|&?line 3 model regs all slots 256 nodes 200000:yes\
+|&?line 3 model regs all slots 256 nodes 200001:bad 3\
+|&?line 8 frame 256:yes\
+|&?line 8 frame 260:bad 8\
+|&?line 8 frame 264:yes\
+|&?line 8 frame 1016:yes\
+|&?line 8 frame 1024:yes\
+|&?line 8 frame 1028:bad 8\
+|&?line 8 frame 1032:bad 8\
+|&?line 20 tree 0:bad 20\
+|&?line 20 tree 200000:bad 22\
+|&?line 20 tree 200001:bad 20\
+|&?line 21 S:bad 21\
+|&?line 21 P -:bad 21\
+|# Trees of many nodes, each an open leaf.\
+|unison 1\nfunction f\nmodel regs all slots 64 nodes 200000\nanswer spent\ntree 200000\n?many 199999:bad 200005|&?many 200000:yes|&?many 200001:bad 200006\
+|unison 2\nfunction f\nmodel regs all slots 256 nodes 200000\nanswer spent\ntree 200000\n?many 199999:bad 200005|&?many 200000:yes|&?many 200001:bad 200006";
 
 /// Appends the answer to an error.
 fn put_error(out: &mut Vec<u8>, error: ReportError) -> Result<(), NoMemory> {
@@ -133,6 +199,40 @@ fn first_lines(text: &[u8], count: u32) -> &[u8] {
     text
 }
 
+/// Appends whether the report of a text is printed again, where its line of a number is another.
+fn put_with_line(
+    alloc: Global,
+    out: &mut Vec<u8>,
+    text: &[u8],
+    number: u32,
+    line: &[u8],
+) -> Result<(), NoMemory> {
+    let front = first_lines(text, number.saturating_sub(1));
+    let rest = first_lines(text, number).len();
+    let mut changed = Vec::new(alloc);
+    put_text(&mut changed, front)?;
+    put_text(&mut changed, line)?;
+    put_text(&mut changed, b"\n")?;
+    put_text(&mut changed, &text[rest.min(text.len())..])?;
+    put_again(alloc, out, changed.as_slice())
+}
+
+/// Appends whether the report of a text is printed again, where so many open leaves and the end stand behind it.
+fn put_with_leaves(
+    alloc: Global,
+    out: &mut Vec<u8>,
+    text: &[u8],
+    count: u32,
+) -> Result<(), NoMemory> {
+    let mut longer = Vec::new(alloc);
+    put_text(&mut longer, text)?;
+    for _ in 0..count {
+        put_text(&mut longer, b"O\n")?;
+    }
+    put_text(&mut longer, b"end\n")?;
+    put_again(alloc, out, longer.as_slice())
+}
+
 /// Appends the answer to a question about a text of a report.
 pub(crate) fn put_of_report(
     alloc: Global,
@@ -143,6 +243,12 @@ pub(crate) fn put_of_report(
     match question.first() {
         Some(b's') => put_again(alloc, out, text),
         Some(b'f') => put_view(alloc, out, first_lines(text, number_at(question, 1))),
+        Some(b'l') => {
+            let (_, change) = cut(question, b' ');
+            let (number, line) = cut(change, b' ');
+            put_with_line(alloc, out, text, number_at(number, 0), line)
+        }
+        Some(b'm') => put_with_leaves(alloc, out, text, number_at(question, 1)),
         _ => put_view(alloc, out, text),
     }
 }

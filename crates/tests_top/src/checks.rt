@@ -1,6 +1,7 @@
 //! The check of changed reports on the smallest function, and of their views.
 
 ghost use Rattle.std.specs.Prelude.{IfOk};
+ghost use Rattle.un_isa.specs.Versions.{IsVersion};
 ghost use Rattle.un_model.specs.Options.{AreOptions};
 
 use crate::rows::{cut, named, number, number_at};
@@ -12,6 +13,7 @@ use un_check::report::{check_report, check_view};
 use un_ir::function::Function;
 use un_ir::text::{put_number, put_text};
 use un_isa::reg::SLOTS;
+use un_isa::table::LAST;
 use un_listing_reader::read::read_code;
 use un_lists::items::Items;
 use un_model::model::{Options, Solution};
@@ -142,7 +144,8 @@ fn options() -> Options
 
 /// The report of a row.
 fn report(alloc: Global, head: &[u8], tree: &[u8]) -> Result<Report, NoMemory>
-    ensures { IfOk result (λ r. AreOptions r.options) }
+    ensures version { IfOk result (λ r. IsVersion r.version) }
+    ensures options { IfOk result (λ r. AreOptions r.options) }
 {
     let Some(name) = Name::from_bytes(name(head)) else {
         return Err(NoMemory);
@@ -152,6 +155,7 @@ fn report(alloc: Global, head: &[u8], tree: &[u8]) -> Result<Report, NoMemory>
         return Err(NoMemory);
     };
     Ok(Report {
+        version: LAST,
         name,
         options: options(),
         nodes: 2000,
@@ -175,6 +179,7 @@ fn told_by_view(
         return Err(NoMemory);
     };
     let view = ReportView {
+        version: LAST,
         name: name(head),
         options: options(),
         nodes: 2000,

@@ -280,7 +280,7 @@ block e freq 0
 ---
 x
 ?run:fault 2 14>>line 2: 14 BadFreq
-|x^70000?run:fault 0 13>>line 0: 13 TooMany
+|x^270000?run:fault 0 13>>line 0: 13 TooMany
 |func f
 block e freq 1
   ret

@@ -1,4 +1,4 @@
-//! First solutions: what they cost on functions whose least cost was worked out by hand.
+//! First solutions, under the least ends that a search hands them: what they cost on functions whose least cost was worked out by hand.
 
 use crate::rows::wrong_row;
 use crate::searches::{model_under, nodes, options, put_part};
@@ -7,6 +7,7 @@ use un_base::memory_error::NoMemory;
 use un_first::first::first;
 use un_ir::text::put_text;
 use un_model::cost::cost;
+use un_search::start::least_ends;
 
 /// Functions, and what the first solution of so many trials costs, where it finds one: the least cost of each.
 static FIRSTS: &[u8] = b"# A chain: the load and the product are each read two cycles later.\
@@ -141,7 +142,10 @@ pub(crate) fn put_first(
     question: &[u8],
 ) -> Result<(), NoMemory> {
     let m = model_under(alloc, function, &options(question))?;
-    match first(alloc, &m, [].as_slice(), nodes(question))? {
+    let Some(ends) = least_ends(alloc, &m)? else {
+        return put_text(out, b"none");
+    };
+    match first(alloc, &m, ends.as_slice(), nodes(question))? {
         None => put_text(out, b"none"),
         Some(solution) => put_part(out, b"cost ", cost(&m, &solution)),
     }

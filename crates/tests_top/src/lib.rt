@@ -13,6 +13,8 @@ mod firsts;
 #[cfg(test)]
 mod hostile;
 #[cfg(test)]
+mod limits;
+#[cfg(test)]
 mod machines;
 #[cfg(test)]
 mod posts;
@@ -28,3 +30,5 @@ mod searches;
 mod values;
 #[cfg(test)]
 mod verdicts;
+#[cfg(test)]
+mod versions;

@@ -62,12 +62,22 @@ static CHECKS: &[u8] = b"# As it is, and with one thing changed after another.\
 |func f\nblock e freq 1\n  ret\n---\nunison 1\nfunction f\nmodel regs 5 slots 64 nodes 1\nanswer spent\ntree 1\nO\nend\n?check:done>yes spent\n>\
 |func f\nblock e freq 1\n  ret\n---\nunison 1\nfunction f\nmodel regs 5 slots 64 nodes 3\nanswer spent\ntree 1\nO\nend\n?check:no>no spent\n>";
 
+/// Appends a line so often as stands behind `^`, and once where nothing does.
+fn put_often(out: &mut Vec<u8>, text: &[u8]) -> Result<(), NoMemory> {
+    let (line, count) = cut(text, b'^');
+    let count = if count.is_empty() { 1 } else { number(count) };
+    for _ in 0..count.min(300_000) {
+        put_text(out, line)?;
+        put_text(out, b"\n")?;
+    }
+    Ok(())
+}
+
 /// Appends lines, which stand behind `/`.
 fn put_lines(out: &mut Vec<u8>, text: &[u8]) -> Result<(), NoMemory> {
     for line in text.split(|b| *b == b'/') {
         if !line.is_empty() {
-            put_text(out, line)?;
-            put_text(out, b"\n")?;
+            put_often(out, line)?;
         }
     }
     Ok(())
@@ -89,6 +99,23 @@ fn put_line(out: &mut Vec<u8>, line: &[u8], place: u64, changes: &[u8]) -> Resul
     put_text(out, b"\n")
 }
 
+/// Appends what a run by these words over an input leaves, where lines of it are changed.
+pub(crate) fn put_changed(
+    alloc: Global,
+    found: &mut Vec<u8>,
+    given: &[u8],
+    changes: &[u8],
+    words: &[u8],
+) -> Result<(), NoMemory> {
+    let mut input = Vec::new(alloc);
+    let mut place: u64 = 1;
+    for line in given.split(|b| *b == b'\n') {
+        put_line(&mut input, line, place, changes)?;
+        place = place.saturating_add(1);
+    }
+    put_run(alloc, found, input.as_slice(), words)
+}
+
 /// Appends what the run of a question over the changed input leaves.
 pub(crate) fn put_altered(
     alloc: Global,
@@ -96,14 +123,7 @@ pub(crate) fn put_altered(
     changes: &[u8],
     question: &[u8],
 ) -> Result<(), NoMemory> {
-    let mut input = Vec::new(alloc);
-    let mut place: u64 = 1;
-    for line in ACCEPTED.split(|b| *b == b'\n') {
-        put_line(&mut input, line, place, changes)?;
-        place = place.saturating_add(1);
-    }
-    let (_, question) = cut(question, b'=');
-    put_run(alloc, found, input.as_slice(), question)
+    put_changed(alloc, found, ACCEPTED, changes, cut(question, b'=').1)
 }
 
 #[test]

@@ -10,6 +10,7 @@ use crate::reports::put_altered;
 use crate::runs::{put_numbers, put_run};
 use crate::searches::{put_solved, put_tried};
 use crate::verdicts::{put_verdict, put_verdict_by_lines};
+use crate::versions::put_version;
 use std::alloc::Global;
 use std::str::from_utf8;
 use un_base::decimal::read_decimal;
@@ -35,8 +36,8 @@ pub(crate) fn number_at(text: &[u8], k: usize) -> u64 {
 }
 
 /// Appends the answer to a question about a text: of what is posted, of how rounds end, of propagators of two operands, of the least ends
-/// of blocks, of a search, of an attempt, of a first solution, of the check of a tree or of its lines, of a run over an altered report or a deep tree, of the numbers
-/// of a report, or else of a run by words.
+/// of blocks, of a search, of an attempt, of a first solution, of the check of a tree or of its lines, of a run over an altered report, one of a version or a deep tree, of the
+/// numbers of a report, or else of a run by words.
 fn put_answer(
     alloc: Global,
     out: &mut Vec<u8>,
@@ -56,6 +57,7 @@ fn put_answer(
         Some(b'=') => put_altered(alloc, out, text, question),
         Some(b'f') => put_first(alloc, out, text, question),
         Some(b't') => put_tried(alloc, out, text, question),
+        Some(b'1'..=b'4') => put_version(alloc, out, text, question),
         _ => put_run(alloc, out, text, question),
     }
 }
@@ -89,7 +91,7 @@ fn parts(answer: &[u8]) -> Option<(&[u8], &[u8])> {
 }
 
 /// Whether an answer is what is wanted.
-fn is_wanted(found: &[u8], answer: &[u8]) -> bool {
+pub(crate) fn is_wanted(found: &[u8], answer: &[u8]) -> bool {
     match parts(answer) {
         Some((front, back)) => found.starts_with(front) && found.ends_with(back),
         None => are_words(found, answer),

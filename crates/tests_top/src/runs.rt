@@ -17,9 +17,9 @@ static RUNS: &[u8] = b"# The smallest function, by pieces of any size and in ano
 |func f
 block e freq 1
   ret
-?alloc:done>unison 1
+?alloc:done>unison 2
 function f
-model regs all slots 64 nodes 2000
+model regs all slots 256 nodes 2000
 answer code
 cost 1
 bound 1
@@ -40,9 +40,9 @@ tree 1
 C
 end
 >\
-|&?alloc;1:done>unison 1
+|&?alloc;1:done>unison 2
 function f
-model regs all slots 64 nodes 2000
+model regs all slots 256 nodes 2000
 answer code
 cost 1
 bound 1
@@ -63,9 +63,9 @@ tree 1
 C
 end
 >\
-|; the smallest\r\n\r\nfunc f ; no parameter\r\n\tblock e freq 001 ; once\r\n\r\nret ; at once?alloc:done>unison 1
+|; the smallest\r\n\r\nfunc f ; no parameter\r\n\tblock e freq 001 ; once\r\n\r\nret ; at once?alloc:done>unison 2
 function f
-model regs all slots 64 nodes 2000
+model regs all slots 256 nodes 2000
 answer code
 cost 1
 bound 1
@@ -91,9 +91,9 @@ end
 block e freq 10
   %c = add %a, %b
   ret %c
-?alloc:done>unison 1
+?alloc:done>unison 2
 function g
-model regs all slots 64 nodes 2000
+model regs all slots 256 nodes 2000
 answer code
 cost 10
 bound 10
@@ -118,9 +118,9 @@ block loop freq 100
   if $c jump loop
 block exit freq 1
   ret %s
-?alloc:done>unison 1
+?alloc:done>unison 2
 function dot
-model regs all slots 64 nodes 2000
+model regs all slots 256 nodes 2000
 answer code
 cost 502
 bound 502
@@ -131,9 +131,9 @@ block a freq 3
 block b freq 7
 block c freq 2
   ret
-?alloc:done>unison 1
+?alloc:done>unison 2
 function e
-model regs all slots 64 nodes 2000
+model regs all slots 256 nodes 2000
 answer code
 cost 2
 bound 2
@@ -157,9 +157,9 @@ block e freq 1
   %r = add %p, %q
   %t = add %r, %e
   ret %t
-?alloc:done>unison 1
+?alloc:done>unison 2
 function s
-model regs all slots 64 nodes 2000
+model regs all slots 256 nodes 2000
 answer code
 cost 4
 bound 4
@@ -172,9 +172,9 @@ block e freq 1
   call h %a
   %r = mux $p, %a, %b
   ret %r
-?alloc --nodes 1:done>unison 1
+?alloc --nodes 1:done>unison 2
 function q
-model regs all slots 64 nodes 1
+model regs all slots 256 nodes 1
 answer code
 cost 29
 bound 2
@@ -221,17 +221,17 @@ block e freq 1
   %b = imm #2
   %c = add %a, %b
   ret %c
-?alloc --regs 1:infeasible>unison 1
+?alloc --regs 1:infeasible>unison 2
 function two
-model regs 1 slots 64 nodes 2000
+model regs 1 slots 256 nodes 2000
 answer infeasible
 tree 1
 C
 end
 >\
-|&?alloc --nodes 1 --regs 1:infeasible>unison 1
+|&?alloc --nodes 1 --regs 1:infeasible>unison 2
 function two
-model regs 1 slots 64 nodes 1
+model regs 1 slots 256 nodes 1
 answer infeasible
 tree 1
 C
@@ -242,7 +242,7 @@ end
 block e freq 1
   call h
   ret
-?alloc --slots 0:infeasible>unison 1
+?alloc --slots 0:infeasible>unison 2
 function k
 model regs all slots 0 nodes 2000
 answer infeasible
@@ -254,17 +254,17 @@ end
 |func f
 block e freq 1
   ret
-?alloc --regs 5 --nodes 1:spent>unison 1
+?alloc --regs 5 --nodes 1:spent>unison 2
 function f
-model regs 5 slots 64 nodes 1
+model regs 5 slots 256 nodes 1
 answer spent
 tree 1
 O
 end
 >\
-|&?alloc --regs 29 --nodes 1:done>unison 1
+|&?alloc --regs 29 --nodes 1:done>unison 2
 function f
-model regs 29 slots 64 nodes 1
+model regs 29 slots 256 nodes 1
 answer code
 cost 6
 bound 1
@@ -278,9 +278,9 @@ block e
 { r29 = add(r29,#8) }
 { jumpr r31 }
 ...\
-|&?alloc --nodes 1:done>unison 1
+|&?alloc --nodes 1:done>unison 2
 function f
-model regs all slots 64 nodes 1
+model regs all slots 256 nodes 1
 answer code
 cost 6
 bound 1
@@ -331,9 +331,9 @@ block b14 freq 1000000
   jump b15
 block b15 freq 1000000
   ret
-?alloc:done>unison 1
+?alloc:done>unison 2
 function f
-model regs all slots 64 nodes 2000
+model regs all slots 256 nodes 2000
 answer code
 cost 16000000
 bound 16000000
@@ -363,9 +363,9 @@ block e freq 1
 |func f %a\nblock e freq 3\n  ret\nblock g freq 3\n  ret %a\n?alloc:fault 5 11>>line 5: 11 MixedResult\n\
 |func f\x01\n?alloc:fault 1 1>>line 1: 1 BadByte\n\
 |func f %a %b %c %d %e %f %g\n?alloc:fault 1 13>>line 1: 13 TooMany\n\
-|# A text may have 65,536 bytes and no more.\
-|x^65536?alloc:fault 1 2>>line 1: 2 BadLine
-|x^65537?alloc:fault 0 13>>line 0: 13 TooMany
+|# A text may have 262,144 bytes and no more.\
+|x^262144?alloc:fault 1 2>>line 1: 2 BadLine
+|x^262145?alloc:fault 0 13>>line 0: 13 TooMany
 |# Each call of the source may fail: two that give bytes, and one that gives none.\
 |func f
 block e freq 1
@@ -378,13 +378,13 @@ block e freq 1
 block e freq 1
   ret
 ?alloc;64 65536 - 0:write fault>>write fault
-|&?alloc;64 65536 - 1:write fault>unison 1
+|&?alloc;64 65536 - 1:write fault>unison 2
 function f
-model regs all slots 64 nodes 2000
-answer co>write fault
-|&?alloc;64 65536 - 2:write fault>unison 1
+model regs all slots 256 nodes 2000
+answer c>write fault
+|&?alloc;64 65536 - 2:write fault>unison 2
 function f
-model regs all slots 64 nodes 2000
+model regs all slots 256 nodes 2000
 answer code
 cost 1
 bound 1
@@ -392,10 +392,10 @@ listing 3
 frame 0
 block e
 { jumpr r31 }
-soluti>write fault
-|&?alloc;64 65536 - 3:write fault>unison 1
+solut>write fault
+|&?alloc;64 65536 - 3:write fault>unison 2
 function f
-model regs all slots 64 nodes 2000
+model regs all slots 256 nodes 2000
 answer code
 cost 1
 bound 1
@@ -405,12 +405,12 @@ block e
 { jumpr r31 }
 solution 124
 16 17 18 19 20 21 22 23 24 25 26 27 31 0 0 0
-0 0 0 0 0 0 >write fault
+0 0 0 0 0 0>write fault
 |# `out` keeps what has room, and a fault of `err` changes no status.\
 |func f
 block e freq 1
   ret
-?alloc;4096 10:write fault>unison 1
+?alloc;4096 10:write fault>unison 2
 f>write fault
 |?alloc;4096 65536 - - 0:fault 1 6>>";
 
@@ -479,7 +479,7 @@ fn bytes_of(alloc: Global, text: &[u8]) -> Result<Vec<u8>, AllocError> {
     let (head, size) = cut(text, b'^');
     let mut bytes = head.to_vec(alloc)?;
     if !size.is_empty() {
-        bytes.resize(number(size).min(100_000) as usize, b'x')?;
+        bytes.resize(number(size).min(300_000) as usize, b'x')?;
     }
     Ok(bytes)
 }
@@ -495,7 +495,7 @@ fn source(alloc: Global, text: &[u8], outside: &[u8]) -> Result<MemSource, Alloc
 /// A sink with so much room, whose call of this number fails.
 fn sink(alloc: Global, room: u64, piece: u64, fails: u64) -> Result<MemSink, NoMemory> {
     let fails = [fails].to_vec(alloc)?;
-    let room = room.min(65536) as usize;
+    let room = room.min(262_144) as usize;
     MemSink::new(alloc, room, piece.clamp(1, 4096) as usize, fails)
 }
 

@@ -1,5 +1,5 @@
 -- What the first rule that numbers break says, and which cause a verdict or a bound is.
-use Rattle.std.proofs.Common.{ℕ, zero, suc, ◌≡◌, ◌≤◌, ◌↔◌, ◌∙◌, Bool, IsTrue, nat_eq, List, [], ◌∷◌, Ok, Err, None, Some, MatchOption, OnOk, length, get_or, map, refl, sym, subst, arith}
+use Rattle.std.proofs.Common.{ℕ, ◌≡◌, ◌≤◌, ◌↔◌, ◌∙◌, Bool, IsTrue, nat_eq, List, [], ◌∷◌, Ok, Err, None, Some, MatchOption, OnOk, length, get_or, map, refl, sym, subst, arith}
 use Rattle.std.proofs.lemmas.Bool.Decides.{nat_tests}
 use Rattle.std.specs.declared.option.Option.{Option}
 use Rattle.std.specs.declared.result.Result.{Result}
@@ -14,7 +14,7 @@ use Rattle.un_packet.proofs.SameCode.{same_code}
 use Rattle.un_packet.specs.declared.code.Code.{Code}
 use Rattle.un_tree.specs.Waits.{Visit}
 use Rattle.un_certificate.specs.Bounds.{IsBound}
-use Rattle.un_check.proofs.BoundLemmas.{bound_one}
+use Rattle.un_certificate.proofs.Lowest.{bound_one}
 use Rattle.un_check.specs.Causes.{Claim, limit_of, IsCause, IsFirstBroken, IsRightHead, IsTreeCause}
 
 -- the first rule of a list that is not empty

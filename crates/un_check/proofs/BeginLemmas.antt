@@ -1,5 +1,5 @@
 -- Before the first node.
-use Rattle.std.proofs.Common.{ℕ, ◌≡◌, ◌≢◌, ◌+◌, ◌≤◌, Bool, true, List, [], ◌∷◌, ◌++◌, All, length, fold, map, max, None, Some}
+use Rattle.std.proofs.Common.{ℕ, ◌≡◌, ◌≢◌, ◌+◌, ◌≤◌, Bool, true, List, [], ◌∷◌, ◌++◌, length, map, None, Some}
 use Rattle.std.proofs.Common.{refl, sym, ap, subst, ◌∙◌, arith}
 use Rattle.std.specs.declared.option.Option.{Option}
 use Rattle.std.specs.List.{AllByRecursion}
@@ -14,32 +14,22 @@ use Rattle.un_kinds.specs.AnyProps.{cut_of}
 use Rattle.un_kinds.specs.declared.any.AnyProp.{AnyProp}
 use Rattle.un_model.specs.declared.model.Model.{Model}
 use Rattle.un_model.specs.Variables.{own_horizon}
-use Rattle.un_post.specs.Posts.{IsExact, ReadsFrom, fix_at, largest_horizon}
+use Rattle.un_post.specs.Posts.{fix_at, largest_horizon}
 use Rattle.un_prop.specs.Pruning.{HasRoom}
-use Rattle.un_prop.specs.Rounds.{fix_of}
 use Rattle.un_prop.specs.declared.propagator.Scratch.{Scratch}
 use Rattle.un_tree.specs.Boxes.{reached}
 use Rattle.un_tree.specs.Waits.{Waiting, Whole, Visit, IsWhole, visits}
 use Rattle.un_tree.specs.declared.node.Decision.{Decision}
 use Rattle.un_tree.specs.declared.node.Node.{Node}
 use Rattle.un_tree.specs.declared.node.Node.TheVariants.{Open}
-use Rattle.un_levels.specs.Levels.{Leveled, IsCutTo, ways}
+use Rattle.un_levels.specs.Levels.{Leveled, ways}
 use Rattle.un_certificate.specs.Certificates.{root_of}
-use Rattle.un_check.specs.Posted.{ArePosted}
+use Rattle.un_certificate.specs.Posted.{ArePosted}
 use Rattle.un_check.specs.Rooms.{AllSplit, AllLost, HasScratch, IsAt, IsEndAt, path_of, waits, waiting_at}
-use Rattle.un_check.specs.Verdicts.{IsLeastOpen}
+use Rattle.un_certificate.specs.Bounds.{IsLeastOpen}
 use Rattle.un_check.specs.Walks.{IsWalk}
 use Rattle.un_check.specs.declared.room.Room.{Room}
 use Rattle.un_check.specs.declared.walk.Walk.{Walk}
-
--- what posting says, said of the first box
-pub posted_of : (m : Model) (limit : Option ℕ) (s : Sets) (ps : List AnyProp) → s ≡ root_of m → IsExact m limit s ps
-    → All (ReadsFrom s) ps → ((box : Sets) → fix_of cut_of ps box ≡ fix_at m limit box) → ArePosted m limit ps
-posted_of m limit s ps is exact reads fixed = record {
-  exact = subst (λ (r : Sets). IsExact m limit r ps) is exact;
-  reads = subst (λ (r : Sets). All (ReadsFrom r) ps) is reads;
-  fixed = fixed;
-}
 
 pub path_none : (live dead : List Decision) → live ≡ [] → dead ≡ [] → live ++ dead ≡ []
 path_none live dead l d = ap (λ (ds : List Decision). ds ++ dead) l ∙ d

@@ -1,6 +1,5 @@
 pub mod AnswerLemmas
 pub mod BeginLemmas
-pub mod BoundLemmas
 pub mod CauseLemmas
 pub mod JudgeLemmas
 pub mod LeafLemmas

@@ -1,5 +1,5 @@
 -- Steps of the check of a tree, down and up.
-use Rattle.std.proofs.Common.{ℕ, suc, ◌≡◌, ◌≢◌, ◌<◌, ◌+◌, Bool, true, false, List, [], ◌∷◌, ◌++◌, length, None, Some, MatchOption, IfSome}
+use Rattle.std.proofs.Common.{ℕ, suc, ◌≡◌, ◌≢◌, ◌<◌, Bool, true, false, List, [], ◌∷◌, ◌++◌, length, None, Some, IfSome}
 use Rattle.std.proofs.Common.{refl, sym, ap, subst, ◌∙◌, append_assoc, option_and_then, cond, filter, nat_eq, arith}
 use Rattle.std.proofs.lemmas.Bool.Decides.{nat_tests}
 use Rattle.std.proofs.lemmas.List.{get_or-set_same, length-set}
@@ -10,7 +10,6 @@ use Rattle.un_base.specs.declared.ids.VarId.{VarId}
 use Rattle.un_domains.specs.Cuts.{Contents}
 use Rattle.un_domains.specs.Sets.{Sets, set_at, kept, cut_by, NoneEmpty}
 use Rattle.un_domains.specs.OrderLaws.{Below-refl, Below-trans}
-use Rattle.un_domains.specs.Order.{Below}
 use Rattle.un_engine.specs.Ends.{IsDeeper}
 use Rattle.un_engine.specs.Engines.{State}
 use Rattle.un_engine.proofs.EngineLaws.{stable_is, failed_is}
@@ -29,12 +28,13 @@ use Rattle.un_tree.specs.Waits.{Waiting, Whole}
 use Rattle.un_tree.specs.declared.node.Decision.{Decision}
 use Rattle.un_branching.proofs.BoxLemmas.{half_box}
 use Rattle.un_branching.proofs.WalkLemmas.{reached-push}
-use Rattle.un_levels.specs.Levels.{Leveled, AtPath, IsCutTo, ways}
+use Rattle.un_levels.specs.Levels.{Leveled, IsCutTo, ways}
 use Rattle.un_levels.proofs.LevelLemmas.{reached-append, leveled_end, leveled_push, leveled_pop, leveled_long, cut_down, cut_up}
 use Rattle.un_certificate.specs.Certificates.{root_of}
-use Rattle.un_check.specs.Posted.{ArePosted, IsPostable, posted_parts, posted_full}
+use Rattle.un_certificate.specs.ModelLaws.{posted_parts, posted_inside}
+use Rattle.un_certificate.specs.Posted.{ArePosted, IsPosted}
 use Rattle.un_check.specs.Engines.{IsDecided, IsSame, IsUndone, side_end}
-use Rattle.un_check.specs.Rooms.{AllSplit, AllLost, IsAt, IsEndAt, IsEngineAt, IsEntered, other_side, path_of, waits, waiting_at}
+use Rattle.un_check.specs.Rooms.{AllSplit, AllLost, IsAt, IsEndAt, IsEngineAt, IsEntered, other_side, path_of, waits}
 use Rattle.un_check.specs.declared.room.Room.{Room}
 
 append_nil : {A : Type 0} (xs : List A) → xs ++ [] ≡ xs
@@ -183,7 +183,7 @@ side_is m limit ps d b c posted i s e =
     sym (posted.fixed (decided d b))
     ∙ (sym (ap (option_and_then (fix_of cut_of ps)) (cut_leaves (side_test d.side d.val) d.var.0 b s.0 full)) ∙ e)
 
-module _ (m : Model) (limit : Option ℕ) (full : NoneEmpty (root_of m)) (post : IsPostable m limit) (r : Room) (h : IsAt m limit r)
+module _ (m : Model) (limit : Option ℕ) (full : NoneEmpty (root_of m)) (post : IsPosted m limit) (r : Room) (h : IsAt m limit r)
     (d : Decision) (s : Splits (reached (root_of m) (path_of r)) d.var d.val) where
   -- where the rounds fail, they fail on a side
   pub entered_lost : fix_at m limit (reached (root_of m) (path_of r)) ≡ None → (e : Option (State AnyProp)) → e ≡ r.engine
@@ -207,7 +207,7 @@ module _ (m : Model) (limit : Option ℕ) (full : NoneEmpty (root_of m)) (post :
 
     pub engine_live : NoneEmpty a.store.sets
     engine_live = let i = box_here m limit r h full in
-        posted_full m limit a.props end_a.posted (reached (root_of m) (path_of r)) a.store.sets i (rests_some m limit r h a at none)
+        (posted_inside m limit a.props end_a.posted (reached (root_of m) (path_of r)) a.store.sets i (rests_some m limit r h a at none)).1
 
     pub entered_by : (b : State AnyProp) (rests : Bool) (e : Option (State AnyProp)) → IsDecided d a b rests → e ≡ Some b
         → IsEntered m limit d r e rests

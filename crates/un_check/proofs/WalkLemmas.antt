@@ -1,30 +1,32 @@
 -- How far the check of a tree has come, node after node.
-use Rattle.std.proofs.Common.{ℕ, suc, ◌≡◌, ◌≢◌, ◌<◌, ◌≤◌, ◌+◌, Bool, true, false, List, [], ◌∷◌, ◌++◌, length, get_or, None, Some, All, min}
+use Rattle.std.proofs.Common.{ℕ, ◌≡◌, ◌≢◌, ◌≤◌, ◌+◌, Bool, true, false, List, [], ◌∷◌, ◌++◌, length, None, Some, All, min}
 use Rattle.std.proofs.Common.{Contains, refl, sym, ap, subst, ◌∙◌, append_assoc, length-append, inl, inr, arith}
 use Rattle.std.specs.declared.option.Option.{Option}
 use Rattle.std.specs.List.{AllByRecursion}
 use Rattle.std.proofs.lemmas.Bool.{cases_lt}
 use Rattle.std.proofs.lemmas.List.{get_or_append_left, get_or_at}
-use Rattle.std.proofs.lemmas.List.Elements.{All-push, All-same, All-weaker, All-nil, recursion_from_All, All-from_recursion}
+use Rattle.std.proofs.lemmas.List.Elements.{All-push, All-same, All-weaker, recursion_from_All, All-from_recursion}
 use Rattle.un_base.specs.declared.ids.VarId.{VarId}
 use Rattle.un_domains.specs.OrderLaws.{Below-refl, Below-trans}
 use Rattle.un_domains.specs.Sets.{Sets, NoneEmpty}
 use Rattle.un_model.specs.declared.model.Model.{Model}
 use Rattle.un_bound.specs.Relaxations.{IsLeast}
-use Rattle.un_post.specs.Posts.{fix_at}
 use Rattle.un_prop.specs.declared.side.Side.{Side}
 use Rattle.un_prop.specs.declared.side.Side.TheVariants.{AtMost, Above}
 use Rattle.un_tree.specs.Boxes.{IsBox, half, Splits, reached}
 use Rattle.un_tree.specs.Covered.{Stands}
 use Rattle.un_tree.specs.Searched.{HasAtLeast, HasLeast, IsLowest}
-use Rattle.un_tree.specs.Waits.{Waiting, Whole, Visit, IsWhole, IsTreeOf, IsStrict, after, visits, visits_of, open_count}
+use Rattle.un_tree.specs.Waits.{Waiting, Whole, Visit, IsWhole, IsStrict, after, visits, visits_of, open_count}
 use Rattle.un_tree.specs.declared.node.Node.{Node}
 use Rattle.un_tree.specs.declared.node.Node.TheVariants.{Branch, Closed, Open}
 use Rattle.un_branching.proofs.BoxLemmas.{half_box}
+use Rattle.un_certificate.proofs.Lowest.{lower, other_least}
+use Rattle.un_certificate.specs.Bounds.{IsLeastOpen}
 use Rattle.un_certificate.specs.Certificates.{IsAlive, IsBelow, IsStanding, root_of}
-use Rattle.un_check.specs.Posted.{IsPostable, posted_keeps}
+use Rattle.un_certificate.specs.ModelLaws.{posted_keeps}
+use Rattle.un_certificate.specs.Posted.{IsPosted}
 use Rattle.un_check.specs.Rooms.{path_of, waits, waiting_at}
-use Rattle.un_check.specs.Verdicts.{Keeps, KeepsIn, BreaksIn, IsFirstBreak, IsLeastOpen, IsYes, IsVerdict, OnYes}
+use Rattle.un_check.specs.Verdicts.{Keeps, KeepsIn, BreaksIn, IsFirstBreak, IsYes, IsVerdict, OnYes}
 use Rattle.un_check.specs.Walks.{IsWalk, lowered}
 use Rattle.un_check.specs.declared.verdict.TreeVerdict.{TreeVerdict}
 use Rattle.un_check.specs.declared.verdict.TreeVerdict.TheVariants.{Yes, NotStrict, NotAlive, NotClosed, Short}
@@ -47,16 +49,6 @@ contains_last : (ps : List Visit) (p : Visit) → Contains (ps ++ p ∷ []) p
 contains_last ps p = (length ps, omega (arith, length-append ps (p ∷ [])), get_or_at ps p [] p (length ps) refl)
 
 module _ (m : Model) where
-  pub lower : (low k : ℕ) (n : Node) (w : Waiting) → low ≤ k → HasAtLeast (IsLeast m) k n w → HasAtLeast (IsLeast m) low n w
-  lower low k (Branch v x) w le h = tt
-  lower low k Closed w le h = tt
-  lower low k Open (Whole b) le h = λ l is. (let e = h l is in omega (arith, e, le))
-
-  pub other_least : (low : ℕ) (n : Node) (w : Waiting) → n ≢ Open → HasAtLeast (IsLeast m) low n w
-  other_least low (Branch v x) w never = tt
-  other_least low Closed w never = tt
-  other_least low Open w never = absurd (never refl)
-
   least_one : (b : Sets) (n l : ℕ) → IsLeast m b n → IsLeast m b l → n ≤ l
   least_one b n l h k = let le = h.least k.reached.0 k.reached.1 in let e = k.reached.2 in omega (arith, le, e)
 
@@ -69,7 +61,7 @@ module _ (m : Model) where
       → IsLeastOpen m (ps ++ p ∷ []) least
   lowest_other ps p None h never = All-push (λ (q : Visit). q.node ≢ Open) ps p h never
   lowest_other ps p (Some low) h never = record {
-    below = All-push (λ (q : Visit). HasAtLeast (IsLeast m) low q.node q.waiting) ps p h.below (other_least low p.node p.waiting never);
+    below = All-push (λ (q : Visit). HasAtLeast (IsLeast m) low q.node q.waiting) ps p h.below (other_least m low p.node p.waiting never);
     leaf = h.leaf;
     there = contains_more ps p h.leaf h.there;
     has = h.has;
@@ -80,7 +72,7 @@ module _ (m : Model) where
   lowest_open ps p None n h is = record {
     below = All-push (λ (q : Visit). HasAtLeast (IsLeast m) n q.node q.waiting) ps p
         (All-weaker (λ (q : Visit). q.node ≢ Open) (λ (q : Visit). HasAtLeast (IsLeast m) n q.node q.waiting)
-        (λ q never. other_least n q.node q.waiting never) ps h)
+        (λ q never. other_least m n q.node q.waiting never) ps h)
         (own_least n p.node p.waiting is);
     leaf = p;
     there = contains_last ps p;
@@ -90,7 +82,7 @@ module _ (m : Model) where
     | inl lt ↦ (let low : min k n ≡ n = omega (arith, lt) in subst (IsLowest (IsLeast m) (ps ++ p ∷ [])) (sym low) (record {
       below = All-push (λ (q : Visit). HasAtLeast (IsLeast m) n q.node q.waiting) ps p
           (All-weaker (λ (q : Visit). HasAtLeast (IsLeast m) k q.node q.waiting) (λ (q : Visit). HasAtLeast (IsLeast m) n q.node q.waiting)
-          (λ q at. lower n k q.node q.waiting (omega (arith, lt)) at) ps h.below)
+          (λ q at. lower m n k q.node q.waiting (omega (arith, lt)) at) ps h.below)
           (own_least n p.node p.waiting is);
       leaf = p;
       there = contains_last ps p;
@@ -98,7 +90,7 @@ module _ (m : Model) where
     }))
     | inr ge ↦ (let low : min k n ≡ k = omega (arith, ge) in subst (IsLowest (IsLeast m) (ps ++ p ∷ [])) (sym low) (record {
       below = All-push (λ (q : Visit). HasAtLeast (IsLeast m) k q.node q.waiting) ps p h.below
-          (lower k n p.node p.waiting ge (own_least n p.node p.waiting is));
+          (lower m k n p.node p.waiting ge (own_least n p.node p.waiting is));
       leaf = h.leaf;
       there = contains_more ps p h.leaf h.there;
       has = h.has;
@@ -221,7 +213,7 @@ half_inside : (root b : Sets) (v : VarId) (x : ℕ) (side : Side) → IsBox root
 half_inside root b v x side i s =
     let h = half_box b b v x side i.1 (Below-refl b) i.1 s in (Below-trans (half b v x side) b root h.0 i.0, h.1)
 
-module _ (m : Model) (limit : Option ℕ) (p : IsPostable m limit) where
+module _ (m : Model) (limit : Option ℕ) (p : IsPosted m limit) where
   all_stand : (i : ℕ) (ns : List Node) (ws : List Waiting) → AllBoxes (root_of m) ws → AllByRecursion (Keeps m limit) (visits i ns ws)
       → AllByRecursion (Stands (IsBelow m limit)) (visits i ns ws)
   all_stand i [] ws boxes keep = tt

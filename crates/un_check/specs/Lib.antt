@@ -2,7 +2,6 @@ pub mod Causes
 pub mod Engines
 pub mod Judging
 pub mod Laws
-pub mod Posted
 pub mod Rooms
 pub mod Sound
 pub mod Verdicts

@@ -2,7 +2,6 @@
 use Rattle.std.specs.Prelude.{ℕ, ◌≡◌, ◌+◌, ⊤, Bool, true, false, List, [], ◌∷◌, ◌++◌, None, Some, All, length}
 use Rattle.std.specs.declared.option.Option.{Option}
 use Rattle.un_domains.specs.Sets.{Sets, NoneEmpty}
-use Rattle.un_engine.specs.Ends.{IsDeeper}
 use Rattle.un_engine.specs.Engines.{State}
 use Rattle.un_ir.specs.Extended.{IsExtended}
 use Rattle.un_ir.specs.declared.extended.ExtBlock.{ExtBlock}
@@ -20,7 +19,7 @@ use Rattle.un_tree.specs.Waits.{Waiting, Whole}
 use Rattle.un_tree.specs.declared.node.Decision.{Decision}
 use Rattle.un_levels.specs.Levels.{AtPath, IsCutTo}
 use Rattle.un_certificate.specs.Certificates.{root_of}
-use Rattle.un_check.specs.Posted.{ArePosted, IsPostable}
+use Rattle.un_certificate.specs.Posted.{ArePosted, IsPosted}
 use Rattle.un_check.specs.declared.room.Room.{Room}
 use Rattle.un_check.specs.declared.rules.Rules.{Rules}
 
@@ -55,7 +54,7 @@ pub record CanCheck (r : Rules) : Type 0 where
   pub extended : IsExtended r.m.now.ext
   pub table : IsFit r.m.now.ext.table
   pub full : NoneEmpty (root_of r.m.now)
-  pub postable : IsPostable r.m.now r.limit
+  pub postable : IsPosted r.m.now r.limit
 
 -- room for the relaxation of each block
 abbrev pub HasScratch : Model → Scratch → Type 0

@@ -1,14 +1,13 @@
 -- What the check of a tree answers: the first node that breaks a point; else that the list is not one whole tree; else what its open
 -- leaves cost at least, and how many they are.
-use Rattle.std.specs.Prelude.{ℕ, ◌≡◌, ◌≢◌, List, ◌∷◌, ◌++◌, ⊤, All, None, Some}
+use Rattle.std.specs.Prelude.{ℕ, ◌≡◌, List, ◌∷◌, ◌++◌, ⊤, All, None}
 use Rattle.std.specs.declared.option.Option.{Option}
 use Rattle.un_model.specs.declared.model.Model.{Model}
-use Rattle.un_bound.specs.Relaxations.{IsLeast}
 use Rattle.un_post.specs.Posts.{fix_at}
-use Rattle.un_tree.specs.Searched.{IsLowest}
 use Rattle.un_tree.specs.Waits.{Waiting, Whole, Visit, IsTreeOf, IsStrictIn, visits_of, open_count}
 use Rattle.un_tree.specs.declared.node.Node.{Node}
 use Rattle.un_tree.specs.declared.node.Node.TheVariants.{Branch, Closed, Open}
+use Rattle.un_certificate.specs.Bounds.{IsLeastOpen}
 use Rattle.un_certificate.specs.Certificates.{IsAliveIn, root_of}
 use Rattle.un_check.specs.declared.verdict.TreeVerdict.{TreeVerdict}
 use Rattle.un_check.specs.declared.verdict.TreeVerdict.TheVariants.{Yes, NotStrict, NotAlive, NotClosed, Short}
@@ -48,11 +47,6 @@ pub record IsFirstBreak (m : Model) (limit : Option ℕ) (ps : List Visit) (v : 
   pub split : ps ≡ before ++ at ∷ behind
   pub kept : All (Keeps m limit) before
   pub breaks : Breaks m limit at v
-
--- the least of the least costs in open leaves' boxes, or that no leaf is open
-abbrev pub IsLeastOpen : Model → List Visit → Option ℕ → Type 0
-IsLeastOpen m ps None = All (λ (p : Visit). p.node ≢ Open) ps
-IsLeastOpen m ps (Some low) = IsLowest (IsLeast m) ps low
 
 -- one whole tree that keeps all points
 pub record IsYes (m : Model) (limit : Option ℕ) (nodes : List Node) (least : Option ℕ) (count : ℕ) : Type 0 where

@@ -7,7 +7,8 @@ use Rattle.un_tree.specs.Waits.{Visit, IsWhole, IsTreeOf, visits, visits_of, ope
 use Rattle.un_tree.specs.declared.node.Node.{Node}
 use Rattle.un_certificate.specs.Certificates.{root_of}
 use Rattle.un_check.specs.Rooms.{path_of, waiting_at}
-use Rattle.un_check.specs.Verdicts.{Keeps, IsLeastOpen}
+use Rattle.un_certificate.specs.Bounds.{IsLeastOpen}
+use Rattle.un_check.specs.Verdicts.{Keeps}
 use Rattle.un_check.specs.declared.walk.Walk.{Walk}
 
 -- all nodes before the rest were looked at, and keep all points

@@ -1,7 +1,7 @@
 //! What sound reports and the check of a report say, as contracts of functions that do nothing.
 
 ghost use Rattle.std.specs.Prelude.{◌≡◌, Result, Ok};
-ghost use Rattle.un_isa.specs.Hexagon.{HEXAGON};
+ghost use Rattle.un_isa.specs.Versions.{table_of};
 ghost use Rattle.un_outside.specs.declared.status.NoCause.{NoCause};
 ghost use Rattle.un_problem.specs.Problems.{IsProblemOf};
 ghost use Rattle.un_certificate.specs.Certificates.{IsCertificate};
@@ -50,21 +50,24 @@ pub fn accepts_certificate(m: &Model, limit: Option<u64>, tree: &Tree)
 
 /// There is one answer to a report: that all is right, or the first cause that stands.
 pub fn one_answer(f: &Function, r: &Report)
-    ensures { (a b : Result (Unit {0}) NoCause) → IsTold HEXAGON f.now r.now.options (claim_of r.now) a
-        → IsTold HEXAGON f.now r.now.options (claim_of r.now) b → a ≡ b }
+    ensures { (a b : Result (Unit {0}) NoCause) → IsTold (table_of r.now.version) f.now r.now.options (claim_of r.now) a
+        → IsTold (table_of r.now.version) f.now r.now.options (claim_of r.now) b → a ≡ b }
 {
     let _ = f;
     let _ = r;
 }
 
-/// The check accepts the report of a search: it is sound, and its tree is that of a search under its answer's limit.
+/// The check accepts the report of a search on a model for the table of the report's version: it is sound, and its tree is that of a search
+/// under its answer's limit.
 pub fn accepts_search(f: &Function, m: &Model, r: &Report)
     requires problem { IsProblemOf f.now m.now }
+    requires tabled { table_of r.now.version ≡ m.now.ext.table }
     requires chosen { r.now.options ≡ m.now.options }
     requires sound { IsSoundFor m.now f.now r.now }
     requires searched { IsCertificate m.now (limit_of r.now.answer) r.now.tree.nodes.items }
-    ensures none { (c : NoCause) → HasCause m.now.ext.table f.now r.now.options (claim_of r.now) c → ⊥ }
-    ensures accepted { (told : Result (Unit {0}) NoCause) → IsTold m.now.ext.table f.now r.now.options (claim_of r.now) told → told ≡ Ok tt }
+    ensures none { (c : NoCause) → HasCause (table_of r.now.version) f.now r.now.options (claim_of r.now) c → ⊥ }
+    ensures accepted { (told : Result (Unit {0}) NoCause) → IsTold (table_of r.now.version) f.now r.now.options (claim_of r.now) told
+        → told ≡ Ok tt }
 {
     let _ = f;
     let _ = m;

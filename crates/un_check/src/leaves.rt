@@ -1,18 +1,20 @@
 //! Whether the tree of a report shows what its answer says.
 
-ghost use Rattle.std.specs.Prelude.{◌≡◌, ◌↔◌, ℕ, List, Option, IsTrue, Contains, OnOk, MatchResult, length};
+ghost use Rattle.std.specs.Prelude.{◌≡◌, ◌↔◌, ℕ, List, Option, All, IsTrue, Contains, OnOk, MatchResult, length};
 ghost use Rattle.un_model.specs.declared.model.Model.{Model};
+ghost use Rattle.un_bound.specs.Arcs.{IsShort};
 ghost use Rattle.un_problem.specs.Problems.{IsProblemOf};
-ghost use Rattle.un_tree.specs.Waits.{IsOdd, Visit, open_count, visits_of};
+ghost use Rattle.un_post.specs.Postable.{IsPostable};
+ghost use Rattle.un_tree.specs.Waits.{IsOdd, open_count, visits_of};
 ghost use Rattle.un_tree.specs.declared.node.Node.{Node};
 ghost use Rattle.un_tree.specs.declared.node.Node.TheVariants.{Open};
-ghost use Rattle.un_certificate.specs.Bounds.{IsBound, IsLowestUnder};
+ghost use Rattle.un_certificate.specs.Bounds.{IsLeastOpen};
 ghost use Rattle.un_certificate.specs.Certificates.{IsStanding, root_of};
 ghost use Rattle.un_check.specs.Causes.{FitsAnswer, HasRightBound, HasRightLeaves, IsRightHead, IsToldBy, IsTreeCause, limit_of};
-ghost use Rattle.un_check.specs.Verdicts.{IsLeastOpen, IsVerdict, IsYes, OnYes};
+ghost use Rattle.un_check.specs.Verdicts.{IsVerdict, IsYes, OnYes};
 
 use crate::verdict::TreeVerdict;
-use un_bound::plain::plain_bound;
+use un_certificate::bound::bound_of;
 use un_ir::function::Function;
 use un_model::model::Model;
 use un_outside::status::NoCause;
@@ -72,34 +74,15 @@ fn has_right_leaves(nodes: u32, answer: &Answered, count: usize, open_leaves: u3
     uses_nodes(nodes, count, open_leaves) && fits_answer(answer, open_leaves)
 }
 
-/// The least of a cost and of the least costs in open leaves' boxes.
-fn lowest_under(cost: u64, least: Option<u64>) -> u64
-    ensures { (m : Model) (ps : List Visit) → IsLeastOpen m ps least → IsLowestUnder m cost ps result }
-{
-    match least {
-        None => cost,
-        Some(low) => cost.min(low),
-    }
-}
-
-/// The bound of a tree under the cost of a solution.
-fn bound_of(f: &Function, m: &Model, cost: u64, least: Option<u64>) -> u64
-    requires problem { IsProblemOf f.now m.now }
-    ensures { (t : List Node) → IsLeastOpen m.now (visits_of (root_of m.now) t) least
-        → IsBound m.now cost (visits_of (root_of m.now) t) result }
-{
-    let _ = f;
-    plain_bound(m).max(lowest_under(cost, least))
-}
-
 /// Whether the bound of an answer is the tree's.
-fn has_right_bound(f: &Function, m: &Model, answer: &Answered, least: Option<u64>) -> bool
-    requires problem { IsProblemOf f.now m.now }
+fn has_right_bound(m: &Model, answer: &Answered, least: Option<u64>) -> bool
+    requires postable { IsPostable m.now }
+    requires short { All IsShort m.now.ext.blocks }
     ensures { (t : List Node) → IsLeastOpen m.now (visits_of (root_of m.now) t) least
         → (IsTrue result ↔ HasRightBound m.now answer.now t) }
 {
     match answer {
-        Answered::Code { cost, bound, .. } => *bound == bound_of(f, m, *cost, least),
+        Answered::Code { cost, bound, .. } => *bound == bound_of(m, *cost, least),
         Answered::Infeasible => true,
         Answered::Spent => true,
     }
@@ -122,7 +105,7 @@ fn judge_leaves(
     if !has_right_leaves(nodes, answer, count, leaves.count) {
         return Err(NoCause::Spent);
     }
-    if !has_right_bound(f, m, answer, leaves.least) {
+    if !has_right_bound(m, answer, leaves.least) {
         return Err(NoCause::Bound);
     }
     Ok(())

@@ -1,7 +1,7 @@
 //! The check of a report.
 
 ghost use Rattle.std.specs.Prelude.{◌≡◌, List, All, IfOk, OnOk};
-ghost use Rattle.un_isa.specs.Hexagon.{HEXAGON};
+ghost use Rattle.un_isa.specs.Versions.{IsVersion, table_of};
 ghost use Rattle.un_model.specs.Options.{AreOptions};
 ghost use Rattle.un_problem.specs.Problems.{IsProblemOf};
 ghost use Rattle.un_report.specs.Views.{IsViewOf};
@@ -17,7 +17,7 @@ use crate::tree::{check_lines, check_tree};
 use std::alloc::Global;
 use un_base::memory_error::NoMemory;
 use un_ir::function::Function;
-use un_isa::table::hexagon;
+use un_isa::table::table_of;
 use un_model::model::Model;
 use un_outside::status::NoCause;
 use un_problem::problem::model;
@@ -52,8 +52,8 @@ fn check_by(
     }
 }
 
-/// The check of a report on a function: that all is right, or why the report is not accepted. A report that is accepted is sound: its
-/// code does what the function does, and no solution costs less than its bound.
+/// The check of a report on a function, by the table of the report's version: that all is right, or why the report is not accepted. A
+/// report that is accepted is sound: its code does what the function does, and no solution costs less than its bound.
 ///
 /// # Errors
 /// Where memory is short, or there are more nodes, variables or operations than numbers below 2^32.
@@ -62,11 +62,12 @@ pub fn check_report(
     f: &Function,
     r: &Report,
 ) -> Result<Result<(), NoCause>, NoMemory>
-    requires { AreOptions r.now.options }
-    ensures told { IfOk result (IsTold HEXAGON f.now r.now.options (claim_of r.now)) }
-    ensures sound { IfOk result (λ told. OnOk told (IsSound HEXAGON f.now r.now)) }
+    requires version { IsVersion r.now.version }
+    requires options { AreOptions r.now.options }
+    ensures told { IfOk result (IsTold (table_of r.now.version) f.now r.now.options (claim_of r.now)) }
+    ensures sound { IfOk result (λ told. OnOk told (IsSound (table_of r.now.version) f.now r.now)) }
 {
-    let m = model(alloc, f, &hexagon(), &r.options)?;
+    let m = model(alloc, f, &table_of(r.version), &r.options)?;
     check_by(alloc, f, &m, r)
 }
 
@@ -102,12 +103,14 @@ pub fn check_view(
     f: &Function,
     v: &ReportView<'_>,
 ) -> Result<Result<(), NoCause>, NoMemory>
+    requires version { IsVersion v.now.version }
     requires options { AreOptions v.now.options }
     requires lines { AreLines v.now.count v.now.tree.now }
     ensures told { (nodes : List Node) → All Fits nodes → v.now.tree.now ≡ tree_text nodes
-        → IfOk result (IsTold HEXAGON f.now v.now.options (claim_with v.now nodes)) }
-    ensures sound { (r : Report) → IsViewOf r v.now → All Fits r.tree.nodes.items → IfOk result (λ told. OnOk told (IsSound HEXAGON f.now r)) }
+        → IfOk result (IsTold (table_of v.now.version) f.now v.now.options (claim_with v.now nodes)) }
+    ensures sound { (r : Report) → IsViewOf r v.now → All Fits r.tree.nodes.items
+        → IfOk result (λ told. OnOk told (IsSound (table_of v.now.version) f.now r)) }
 {
-    let m = model(alloc, f, &hexagon(), &v.options)?;
+    let m = model(alloc, f, &table_of(v.version), &v.options)?;
     check_view_by(alloc, f, &m, v)
 }

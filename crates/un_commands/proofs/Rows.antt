@@ -100,7 +100,7 @@ slots_and_nodes = is_alloc both 5 _
     (record { fresh = refl; flag = refl; number = ap Some (digit 5 (lit< tt)); ranged = (lit≤ tt, lit≤ tt) })) refl
 
 -- `alloc` alone
-alone : IsCommand (codes "alloc" ∷ []) (Reads (Alloc (record { nodes = 2000; regs = None; slots = 64 })))
+alone : IsCommand (codes "alloc" ∷ []) (Reads (Alloc (record { nodes = 2000; regs = None; slots = 256 })))
 alone = is_alloc (codes "alloc" ∷ []) 1 none_given (so_far_none (codes "alloc" ∷ []) refl) refl
 
 -- `gen 7`

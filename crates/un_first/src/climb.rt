@@ -15,8 +15,17 @@ use un_blocks::grid::Grid;
 /// After so many changes without gain each block gets more trials.
 const PATIENCE: u32 = 400;
 
+/// After so many changes without gain a plan that costs the least is not changed any more to save copies.
+const COPY_PATIENCE: u32 = 48;
+
 /// After each so many changes without gain the best plan is the present one again.
 const RETURN: u32 = 64;
+
+/// A climb is not given up before so many trials, nor before a quarter of all that it may make.
+const LEAST_TRIALS: u64 = 1_000;
+
+/// Then it is given up where it has made so many times as many trials as when the best plan was last made cheaper.
+const STALE: u64 = 4;
 
 /// A plan that costs more than the present one is gone on from once in so many times.
 const DETOUR: u64 = 4;
@@ -60,6 +69,8 @@ struct Climb {
     cost: Cost,
     /// What the best plan costs.
     record: Cost,
+    /// How many trials were made when the best plan was last made cheaper.
+    gained: u64,
 }
 
 impl Climb {
@@ -71,6 +82,12 @@ impl Climb {
         }
         let limit = self.record.cycles.saturating_add(slack);
         limit.max(self.cost.cycles)
+    }
+
+    /// Whether no change is tried any more where plans cost this at least: the best one costs no more, and copies were not saved for long.
+    fn is_over(self, least: u64) -> bool {
+        let is_plain = self.record.copies == 0 || self.idle > COPY_PATIENCE;
+        self.record.cycles <= least && is_plain
     }
 }
 
@@ -169,14 +186,21 @@ impl<'a> Search<'a> {
         Ok(new)
     }
 
-    /// Makes the present plan's recipes the first ones, and keeps it where it costs less than the best.
+    /// Makes the present plan's recipes the first ones, and keeps it where it costs less than the best. Where none can cost less, copies
+    /// are saved from then on.
     fn note(&mut self, plans: &mut Plans, now: Climb) -> Result<Climb, AllocError> {
         let mut new = now;
         self.remember(&plans.present)?;
         if now.cost.is_below(now.record) {
+            if now.cost.cycles < now.record.cycles {
+                new.gained = self.made();
+            }
             new.idle = 0;
             new.record = now.cost;
             plans.best.copy_from(&plans.present)?;
+        }
+        if new.record.cycles <= self.least {
+            self.saves_copies = true;
         }
         Ok(new)
     }
@@ -199,7 +223,14 @@ impl<'a> Search<'a> {
         self.note(plans, new)
     }
 
-    /// Changes places until `reserve` trials are left. Answers the best plan.
+    /// Whether nothing was gained for so long that the climb is given up.
+    fn is_stale(&self, now: Climb) -> bool {
+        let made = self.made();
+        made > LEAST_TRIALS.max(self.budget / 4) && made / STALE > now.gained
+    }
+
+    /// Changes places until `reserve` trials are left, or nothing was gained for long: then those above the reserve are left out. Answers
+    /// the best plan.
     pub fn climb(&mut self, alloc: Global, start: Plan, reserve: u64) -> Result<Plan, AllocError> {
         let mut plans = Plans::new(alloc, self.facts, start)?;
         let begin = Climb {
@@ -207,10 +238,14 @@ impl<'a> Search<'a> {
             idle: 0,
             cost: ENDLESS,
             record: ENDLESS,
+            gained: 0,
         };
         let mut now = self.refresh(&mut plans, begin)?;
         for _ in 0..self.left.saturating_mul(4) {
-            if self.left <= reserve || now.record.cycles <= self.least {
+            if self.is_stale(now) {
+                self.left = self.left.min(reserve);
+            }
+            if self.left <= reserve || now.is_over(self.least) {
                 break;
             }
             now = self.step(&mut plans, now)?;
@@ -218,8 +253,9 @@ impl<'a> Search<'a> {
         Ok(plans.best)
     }
 
-    /// Makes more and more trials for the blocks above their least ends.
+    /// Makes more and more trials for the blocks above their least ends, and for copies.
     pub fn spend(&mut self, plan: &mut Plan) -> Result<(), AllocError> {
+        self.saves_copies = true;
         let mut effort = 8u64;
         for _ in 3..32 {
             let _cost = self.cost(plan, effort, u64::MAX)?;

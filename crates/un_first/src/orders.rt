@@ -17,13 +17,13 @@ fn follows(op: &Operation, other: u32) -> bool {
 /// The first place to which the operation at place `from` can move: behind the last that has to stand before it.
 fn first_place(block: &Block, order: &[u32], from: u32) -> u32 {
     let op = block.operation(at(order, from));
-    let mut first = 0;
-    for p in 0..from {
-        if follows(op, at(order, p)) {
-            first = p.saturating_add(1);
+    for step in 0..from {
+        let behind = from.saturating_sub(step);
+        if follows(op, at(order, behind.saturating_sub(1))) {
+            return behind;
         }
     }
-    first
+    0
 }
 
 /// The last place to which it can move: before the first that has to stand behind it.

@@ -18,6 +18,9 @@ const MOVES: u64 = 5;
 /// After so many trials that brought no smaller schedule a block is tried no more.
 const PATIENCE: u64 = 800;
 
+/// After so many a block that ends as early as it can is tried no more where copies are to be saved.
+const COPY_PATIENCE: u64 = 20;
+
 /// A recipe to begin with, where there is one.
 #[derive(Drop)]
 struct Seed {
@@ -32,10 +35,14 @@ pub struct Search<'a> {
     pub facts: &'a Facts,
     /// Where its chance comes from, which follows from a fixed seed.
     pub noise: Noise,
+    /// How many trials it may make.
+    pub budget: u64,
     /// How many trials are left.
     pub left: u64,
     /// What the blocks' least ends cost together: no plan costs less.
     pub least: u64,
+    /// Whether blocks that end as early as they can are tried as well, to save copies.
+    pub saves_copies: bool,
     trial: Trial<'a>,
     recipe: Recipe,
     /// The present plan's recipes are the first trials under other places.
@@ -97,12 +104,19 @@ impl<'a> Search<'a> {
         Ok(Search {
             facts,
             noise: Noise::new(0),
+            budget,
             left: budget,
             least: least_cost(facts),
+            saves_copies: false,
             trial: Trial::empty(alloc, task),
             recipe: Recipe::new(alloc),
             seeds,
         })
+    }
+
+    /// How many trials were made.
+    pub fn made(&self) -> u64 {
+        self.budget.saturating_sub(self.left)
     }
 
     /// The recipe of a block's first trial: the seed or the source order.
@@ -230,6 +244,16 @@ impl<'a> Search<'a> {
         Ok(())
     }
 
+    /// Whether a block is tried no more: it ends as early as it can, and has no copies to be saved, or nothing was gained for long.
+    fn is_over(&self, block: &Block, mine: &BlockPlan) -> bool {
+        let idle = mine.tried.saturating_sub(mine.gained);
+        if !mine.is_found || mine.best.end > block.least_end {
+            idle > PATIENCE
+        } else {
+            !self.saves_copies || mine.best.copies == 0 || idle > COPY_PATIENCE
+        }
+    }
+
     /// Makes the trials of a block up to `effort`, until its end is the least or nothing was gained for long.
     fn try_up_to(
         &mut self,
@@ -240,9 +264,7 @@ impl<'a> Search<'a> {
         effort: u64,
     ) -> Result<(), AllocError> {
         for _ in mine.tried..effort {
-            let is_least = mine.is_found && mine.best.end <= block.least_end;
-            let is_idle = mine.tried.saturating_sub(mine.gained) > PATIENCE;
-            if is_least || is_idle || self.left == 0 {
+            if self.left == 0 || self.is_over(block, mine) {
                 break;
             }
             self.try_block(b, block, scene, mine)?;

@@ -7,32 +7,53 @@ use un_blocks::facts::{Block, Facts, at};
 use un_trial::facts::Operation;
 use un_trial::table::NONE;
 
-/// What a block costs above its least end.
-fn excess(block: &Block, mine: &BlockPlan) -> u64 {
-    let end = if mine.is_found { mine.best.end } else { 0 };
-    block
-        .frequency
-        .saturating_mul(u64::from(end.saturating_sub(block.least_end)))
+/// What is to be saved in a block.
+#[derive(Clone, Copy)]
+enum Saving {
+    /// What it costs above its least end.
+    Cycles,
+    /// Its copies, by frequency.
+    Copies,
 }
 
-fn total_excess(facts: &Facts, plan: &Plan) -> u64 {
-    let mut sum = 0u64;
-    for (block, mine) in facts.blocks.as_slice().iter().zip(plan.blocks.as_slice()) {
-        sum = sum.saturating_add(excess(block, mine));
+impl Saving {
+    /// How much of it there is in a block.
+    fn of(self, block: &Block, mine: &BlockPlan) -> u64 {
+        if !mine.is_found {
+            return 0;
+        }
+        let size = match self {
+            Saving::Cycles => mine.best.end.saturating_sub(block.least_end),
+            Saving::Copies => mine.best.copies,
+        };
+        block.frequency.saturating_mul(u64::from(size))
     }
-    sum
+
+    /// How much of it there is in all blocks.
+    fn total(self, facts: &Facts, plan: &Plan) -> u64 {
+        let mut sum = 0u64;
+        for (block, mine) in facts.blocks.as_slice().iter().zip(plan.blocks.as_slice()) {
+            sum = sum.saturating_add(self.of(block, mine));
+        }
+        sum
+    }
 }
 
-/// A block by chance: by the cost above its least, one in four any.
+/// A block by chance: by the cost above its least, where no block has any by its copies, one in four any.
 pub fn pick_block(facts: &Facts, plan: &Plan, noise: &mut Noise) -> u32 {
-    let total = total_excess(facts, plan);
+    let above = Saving::Cycles.total(facts, plan);
+    let (saving, total) = if above > 0 {
+        (Saving::Cycles, above)
+    } else {
+        (Saving::Copies, Saving::Copies.total(facts, plan))
+    };
     if noise.one_in(4) {
         return noise.place(u32::try_from(facts.blocks.len()).unwrap_or(0));
     }
     let mut rest = noise.below(total);
     let mut b = 0u32;
     for (block, mine) in facts.blocks.as_slice().iter().zip(plan.blocks.as_slice()) {
-        let excess = excess(block, mine);
+        let excess = saving.of(block, mine);
         if rest < excess {
             return b;
         }

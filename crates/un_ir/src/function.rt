@@ -11,13 +11,13 @@ use un_lists::few::Few;
 use un_lists::items::Items;
 
 /// How many blocks a function may have.
-pub const BLOCKS: u32 = 16;
+pub const BLOCKS: u32 = 64;
 
 /// How many operations a function may have, terminators not counted.
-pub const OPS: u32 = 80;
+pub const OPS: u32 = 400;
 
 /// How many names a function may have, of both kinds together.
-pub const NAMES: u32 = 40;
+pub const NAMES: u32 = 120;
 
 /// How many parameters a function may have, and how many arguments a call.
 pub const PARAMS: u32 = 6;

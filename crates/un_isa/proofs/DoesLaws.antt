@@ -1,6 +1,6 @@
 -- What goes with what an operation does: each law is tried at every operation.
 use Rattle.std.proofs.Common.{◌≡◌, Bool, true, false, not, refl}
-use Rattle.std.specs.Prelude.{nat_eq, is_none, ◌||◌}
+use Rattle.std.specs.Prelude.{nat_eq, is_none}
 use Rattle.un_isa.specs.declared.op.Op.{Op}
 use Rattle.un_isa.specs.declared.op.Op.TheVariants.{Imm, Call}
 use Rattle.un_isa.specs.Does.{is_call, is_return, is_jump, is_transfer, is_leaving, is_control, is_copy, writes_memory, is_word_access}

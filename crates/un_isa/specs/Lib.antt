@@ -10,4 +10,5 @@ pub mod RegSets
 pub mod Registers
 pub mod Starts
 pub mod Tables
+pub mod Versions
 pub mod Words

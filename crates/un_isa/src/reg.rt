@@ -22,10 +22,10 @@ pub const REGISTERS: u32 = GENERALS + PREDICATES;
 pub const FIRST_SLOT: u32 = REGISTERS;
 
 /// How many slots a frame may have.
-pub const SLOTS: u32 = 64;
+pub const SLOTS: u32 = 256;
 
 /// How many bytes a frame may have.
-pub const FRAME: u32 = 256;
+pub const FRAME: u32 = 1024;
 
 /// A register or frame slot: 0 to 31 are r0 to r31, 32 to 35 are p0 to p3, 36 + i is frame slot i.
 #[derive(Clone, Copy, Default, PartialEq)]

@@ -4,8 +4,12 @@ ghost use Rattle.std.specs.Prelude.{◌≡◌, slice_get, Some};
 ghost use Rattle.un_isa.specs.Tables.{number_of, latency_of, gap_by};
 ghost use Rattle.un_isa.specs.Hexagon.{HEXAGON, IsHexagon};
 ghost use Rattle.un_isa.specs.Fit.{IsFit};
+ghost use Rattle.un_isa.specs.Versions.{IsVersion, table_of};
 
 use crate::op::{OPERATIONS, Op};
+
+/// The last version of reports, which are numbered from 1.
+pub const LAST: u8 = 2;
 
 /// How many of each resource of a packet an instruction takes.
 #[derive(Clone, Copy)]
@@ -127,6 +131,16 @@ pub fn hexagon() -> Table
         result: 0,
         saved: 0x0FFF_0000,
     }
+}
+
+/// The table that reports of a version are judged by.
+pub fn table_of(version: u8) -> Table
+    requires { IsVersion version }
+    ensures is { result ≡ table_of version }
+    ensures fit { IsFit result }
+{
+    let _ = version;
+    hexagon()
 }
 
 /// The latency of an operation, in cycles: a register that it writes in cycle c can be read from cycle c + latency on.

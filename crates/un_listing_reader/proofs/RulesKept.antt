@@ -1,5 +1,5 @@
 -- Blocks whose lines all stand keep the rules of code.
-use Rattle.std.proofs.Common.{◌≡◌, ◌≢◌, ◌<◌, ℕ, suc, zero, ◌+◌, Bool, true, false, List, [], ◌∷◌, ◌++◌, Option, Some, length, slice_get}
+use Rattle.std.proofs.Common.{◌≡◌, ◌≢◌, ◌<◌, ◌≤◌, ℕ, suc, zero, ◌+◌, Bool, true, false, List, [], ◌∷◌, ◌++◌, Option, Some, length, slice_get}
 use Rattle.std.proofs.Common.{IsSomeAnd, All, Contains, sum_by, refl, sym, ap, ◌∙◌, subst, arith, append-nil, append_assoc, length-append}
 use Rattle.std.specs.List.{AllByRecursion as Each}
 use Rattle.std.specs.Bool.{OnTrue}
@@ -7,6 +7,7 @@ use Rattle.std.proofs.lemmas.List.Elements.{All-cons, All-nil, Contains-append_l
 use Rattle.std.proofs.lemmas.List.Sums.{sum_by-cons}
 use Rattle.un_base.specs.Names.{is_name}
 use Rattle.un_words.proofs.Each.{EachPair, EachPair-AllPairs}
+use Rattle.un_isa.specs.declared.reg.TheConstants.{FRAME}
 use Rattle.un_packet.specs.declared.code.TheConstants.{PACKETS, BLOCKS}
 use Rattle.un_packet.specs.declared.code.Packet.{Packet}
 use Rattle.un_packet.specs.declared.code.CodeBlock.{CodeBlock}
@@ -183,10 +184,11 @@ some_block : (bs : List CodeBlock) → lines_in bs ≢ [] → 0 < length bs
 some_block [] some = absurd (some refl)
 some_block (b ∷ bs) some = omega arith
 
-pub rules_kept : (text : List ℕ) (frame : ℕ) (bs : List CodeBlock) → IsFrameLine text frame
+pub rules_kept : (most : ℕ) → most ≤ FRAME → (text : List ℕ) (frame : ℕ) (bs : List CodeBlock) → IsFrameLine most text frame
     → Each (λ (b : CodeBlock). All (IsGoodPacket frame) b.packets) bs → All (λ (b : CodeBlock). is_name b.label ≡ true) bs
     → AllStand (lines_in bs) → KeepsRules frame bs
-rules_kept text frame bs framed good named stand =
+rules_kept most within text frame bs framed good named stand =
+    let small = framed.small in
     let from : StandFrom (labels_in (lines_in bs)) [] (lines_in bs) = from_places [] (lines_in bs) stand.each in
     let h : StandFrom (labels_of bs) [] (lines_in bs) = subst (λ (all : List (List ℕ)). StandFrom all [] (lines_in bs))
     (labels_lines bs) from in
@@ -195,7 +197,7 @@ rules_kept text frame bs framed good named stand =
     (omega arith) in
     record {
       whole = framed.whole;
-      small = framed.small;
+      small = omega (arith, small, within);
       some = some_block bs stand.some;
       few_blocks = omega arith;
       few_packets = omega arith;

@@ -55,9 +55,10 @@ IsReadAs frame text (Some Broken) = SpellsNone frame text × IsPacketForm text
 abbrev pub frame_text : ℕ → List ℕ
 frame_text frame = codes "frame " ++ (decimal frame ++ codes "\n")
 
-pub record IsFrameLine (text : List ℕ) (frame : ℕ) : Type 0 where
+-- it is at most so many
+pub record IsFrameLine (most : ℕ) (text : List ℕ) (frame : ℕ) : Type 0 where
   pub whole : frame % 8 ≡ 0
-  pub small : frame ≤ FRAME
+  pub small : frame ≤ most
   pub spelled : text ≡ frame_text frame
 
 -- ---- which lines stand at their places
@@ -137,34 +138,46 @@ pub record IsFirstBadOf (lines : List (Option Line)) (k : ℕ) : Type 0 where
   pub inside : lines ≢ [] → k < length lines
 
 -- the same of the lines behind a first line, where each is read as what it spells
-pub record IsBadBehind (first : List ℕ) (rest : List (List ℕ)) (number : ℕ) : Type 0 where
+pub record IsBadBehind (most : ℕ) (first : List ℕ) (rest : List (List ℕ)) (number : ℕ) : Type 0 where
   pub frame : ℕ
   pub lines : List (Option Line)
   pub place : ℕ
-  pub framed : IsFrameLine first frame
+  pub framed : IsFrameLine most first frame
   pub read : AllZip (IsReadAs frame) rest lines
   pub bad : IsFirstBadOf lines place
   pub numbered : number ≡ place + 2
 
 -- a first line that is no frame's is bad, and one that is missing
-abbrev pub IsFirstBadIn : List (List ℕ) → ℕ → Type 0
-IsFirstBadIn [] number = number ≡ 1
-IsFirstBadIn (first ∷ rest) number = (((frame : ℕ) → ¬ IsFrameLine first frame) × (number ≡ 1)) ⊎ IsBadBehind first rest number
+abbrev pub IsFirstBadIn : ℕ → List (List ℕ) → ℕ → Type 0
+IsFirstBadIn most [] number = number ≡ 1
+IsFirstBadIn most (first ∷ rest) number =
+    (((frame : ℕ) → ¬ IsFrameLine most first frame) × (number ≡ 1)) ⊎ IsBadBehind most first rest number
 
--- the first line outside the grammar, counted from 1. A line stands with its line feed.
+-- the first line outside the grammar of listings whose frame has at most so many bytes, counted from 1. A line stands with its line
+-- feed.
+abbrev pub IsFirstBadWithin : ℕ → List ℕ → ℕ → Type 0
+IsFirstBadWithin most text number = IsFirstBadIn most (pieces_of text) number
+
 abbrev pub IsFirstBad : List ℕ → ℕ → Type 0
-IsFirstBad text number = IsFirstBadIn (pieces_of text) number
+IsFirstBad = IsFirstBadWithin FRAME
 
 -- an error is an answer to a text: there was no memory, or the line is the first bad one
+abbrev pub IsErrorWithin : ℕ → List ℕ → ListingError → Type 0
+IsErrorWithin most text NoMemory = Unit {0}
+IsErrorWithin most text (BadListing line) = IsFirstBadWithin most text line
+
 abbrev pub IsErrorOf : List ℕ → ListingError → Type 0
-IsErrorOf text NoMemory = Unit {0}
-IsErrorOf text (BadListing line) = IsFirstBad text line
+IsErrorOf = IsErrorWithin FRAME
 
 -- ---- the listing of code
 
 -- the text is the listing of code, which keeps the rules of its type
 abbrev pub IsListingOf : List ℕ → Code → Type 0
 IsListingOf text c = text ≡ code_text c
+
+-- the same of code whose frame has at most so many bytes
+abbrev pub IsListingWithin : ℕ → List ℕ → Code → Type 0
+IsListingWithin most text c = IsListingOf text c × (c.frame ≤ most)
 
 -- an answer to the listing of code is that code, or there was no memory
 abbrev pub IsReadBack : Code → Result Code ListingError → Type 0

@@ -11,7 +11,6 @@ use std::alloc::Global;
 use un_base::decimal::read_decimal;
 use un_base::memory_error::NoMemory;
 use un_base::name::Name;
-use un_isa::reg::FRAME;
 use un_packet::code::Packet;
 
 /// A line behind the first: the line of a block's label, that of a packet, or one that is a packet's by its form and breaks a rule
@@ -66,13 +65,13 @@ pub fn read_line(alloc: Global, frame: u32, text: &[u8]) -> Result<Option<Line>,
     Ok(line_of(read))
 }
 
-/// The size of the frame in bytes, where the first line spells it.
-pub fn read_frame(text: &[u8]) -> Option<u32>
-    ensures some { IfSome result (IsFrameLine text.now) }
-    ensures none { IfNone result ((frame : ℕ) → ¬ (IsFrameLine text.now frame)) }
+/// The size of the frame in bytes, at most so many, where the first line spells it.
+pub fn read_frame(text: &[u8], most: u32) -> Option<u32>
+    ensures some { IfSome result (IsFrameLine most text.now) }
+    ensures none { IfNone result ((frame : ℕ) → ¬ (IsFrameLine most text.now frame)) }
 {
     let frame = read_decimal(within(text, b"frame ")?)?;
-    if frame % 8 == 0 && frame <= u64::from(FRAME) {
+    if frame % 8 == 0 && frame <= u64::from(most) {
         Some(frame as u32)
     } else {
         None

@@ -1,8 +1,9 @@
 //! Code from its listing.
 
-ghost use Rattle.std.specs.Prelude.{◌≡◌, ◌≢◌, ◌+◌, ◌<◌, ◌^◌, ◌++◌, ◌∷◌, [], ℕ, List, Option, IfOk, IfErr, OnOk, MatchOption};
-ghost use Rattle.un_listing_reader.specs.Reading.{AllStand, IsErrorOf, IsFirstBad, IsFirstBadOf, IsListingOf, IsReadBack};
-ghost use Rattle.un_listing_reader.specs.Reading.{IsUnder, LineValue, labels_in, lines_in};
+ghost use Rattle.std.specs.Prelude.{◌≡◌, ◌≢◌, ◌+◌, ◌<◌, ◌≤◌, ◌^◌, ◌++◌, ◌∷◌, [], ℕ, List, Option, IfOk, IfErr, OnOk, MatchOption};
+ghost use Rattle.un_isa.specs.declared.reg.TheConstants.{FRAME};
+ghost use Rattle.un_listing_reader.specs.Reading.{AllStand, IsErrorOf, IsErrorWithin, IsFirstBadOf, IsFirstBadWithin, IsListingOf};
+ghost use Rattle.un_listing_reader.specs.Reading.{IsListingWithin, IsReadBack, IsUnder, LineValue, labels_in, lines_in};
 ghost use Rattle.un_listing_reader.specs.LabelSets.{IsBefore, SameLabels};
 
 use crate::judge::stands;
@@ -13,6 +14,7 @@ use std::alloc::Global;
 use thiserror::Error;
 use un_base::memory_error::NoMemory;
 use un_base::name::Name;
+use un_isa::reg::FRAME;
 use un_lists::items::Items;
 use un_packet::code::{Code, CodeBlock, Packet};
 use un_words::pieces::first_len;
@@ -165,7 +167,7 @@ fn assemble(alloc: Global, lines: Items<Option<Line>>) -> Result<Items<CodeBlock
 /// The answer where the first bad line stands at a place behind the frame's. A number that is too large for a line is answered as
 /// want of memory.
 fn refusal(place: usize) -> ListingError
-    ensures { (text : List ℕ) → IsFirstBad text (place + 2) → IsErrorOf text result }
+    ensures { (most : ℕ) (text : List ℕ) → IsFirstBadWithin most text (place + 2) → IsErrorWithin most text result }
 {
     match u32::try_from(place.saturating_add(2)) {
         Ok(line) => ListingError::BadListing { line },
@@ -173,21 +175,22 @@ fn refusal(place: usize) -> ListingError
     }
 }
 
-/// The code whose listing this is; the listing of each code is read back as that code. A label's line at which there would be 2^28
-/// blocks is bad, and a packet's line at which there would be 2^28 packets.
+/// The code whose listing this is, where its frame has at most so many bytes; the listing of each such code is read back as that code.
+/// A label's line at which there would be 2^28 blocks is bad, and a packet's line at which there would be 2^28 packets.
 ///
 /// # Errors
 /// `BadListing` with the first line outside the grammar, from 1; `NoMemory` where there is no memory for the code.
-pub fn read_code(alloc: Global, text: &[u8]) -> Result<Code, ListingError>
-    ensures ok { IfOk result (IsListingOf text.now) }
-    ensures bad { IfErr result (IsErrorOf text.now) }
-    ensures whole { (c : Code) → IsListingOf text.now c → IsReadBack c result }
+pub fn read_code_within(alloc: Global, text: &[u8], most: u32) -> Result<Code, ListingError>
+    requires { most ≤ FRAME }
+    ensures ok { IfOk result (IsListingWithin most text.now) }
+    ensures bad { IfErr result (IsErrorWithin most text.now) }
+    ensures whole { (c : Code) → IsListingWithin most text.now c → IsReadBack c result }
 {
     if text.is_empty() {
         return Err(ListingError::BadListing { line: 1 });
     }
     let len = first_len(text);
-    let Some(frame) = read_frame(&text[..len]) else {
+    let Some(frame) = read_frame(&text[..len], most) else {
         return Err(ListingError::BadListing { line: 1 });
     };
     let Ok(lines) = read_lines(alloc, frame, &text[len..]) else {
@@ -202,4 +205,16 @@ pub fn read_code(alloc: Global, text: &[u8]) -> Result<Code, ListingError>
         Ok(blocks) => Ok(Code { frame, blocks }),
         Err(_) => Err(ListingError::NoMemory),
     }
+}
+
+/// The same with the greatest frame that code may have.
+///
+/// # Errors
+/// As `read_code_within` has them.
+pub fn read_code(alloc: Global, text: &[u8]) -> Result<Code, ListingError>
+    ensures ok { IfOk result (IsListingOf text.now) }
+    ensures bad { IfErr result (IsErrorOf text.now) }
+    ensures whole { (c : Code) → IsListingOf text.now c → IsReadBack c result }
+{
+    read_code_within(alloc, text, FRAME)
 }

@@ -1,9 +1,21 @@
 -- Parts of reports, as they are to be printed.
 use Rattle.std.proofs.Common.{ℕ, ◌≡◌, List, [], ◌∷◌, None, Some, codes, refl}
 use Rattle.std.specs.Fmt.{digits}
-use Rattle.un_report.specs.Reports.{numbers_text, solution_text, model_text, costs_text, answer_text, tree_part}
+use Rattle.un_report.specs.Reports.{head_text, numbers_text, solution_text, model_text, costs_text, answer_text, tree_part}
+use Rattle.un_report.specs.declared.report.Report.{Report}
 use Rattle.un_report.specs.declared.report.Answered.TheVariants.{Infeasible, Spent}
 use Rattle.un_tree.specs.declared.node.Node.TheVariants.{Branch, Closed, Open}
+
+-- the first line of a report of each version
+first_head : (r : Report) → r.version ≡ 1 → r.name ≡ codes "f" → r.options ≡ record { regs = None; slots = 64 } → r.nodes ≡ 1
+    → head_text r ≡ codes "unison 1\nfunction f\nmodel regs all slots 64 nodes 1\n"
+unfolding digits
+first_head r version name options nodes = rw (version, name, options, nodes) refl
+
+second_head : (r : Report) → r.version ≡ 2 → r.name ≡ codes "f" → r.options ≡ record { regs = None; slots = 256 } → r.nodes ≡ 1
+    → head_text r ≡ codes "unison 2\nfunction f\nmodel regs all slots 256 nodes 1\n"
+unfolding digits
+second_head r version name options nodes = rw (version, name, options, nodes) refl
 
 one_register : model_text (record { regs = Some 1; slots = 64 }) 2000 ≡ codes "model regs 1 slots 64 nodes 2000\n"
 unfolding digits

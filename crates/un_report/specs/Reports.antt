@@ -3,7 +3,7 @@ use Rattle.std.specs.Prelude.{ℕ, ◌+◌, ◌%◌, ◌||◌, ◌==◌, List, [
 use Rattle.un_listing.specs.Listing.{code_lines, code_text}
 use Rattle.un_model.specs.declared.model.Options.{Options}
 use Rattle.un_packet.specs.declared.code.Code.{Code as CodeValue}
-use Rattle.un_report.specs.declared.report.TheConstants.{VERSION, NUMBERS}
+use Rattle.un_report.specs.declared.report.TheConstants.{NUMBERS}
 use Rattle.un_report.specs.declared.report.Answered.{Answered}
 use Rattle.un_report.specs.declared.report.Answered.TheVariants.{Code, Infeasible, Spent}
 use Rattle.un_report.specs.declared.report.Report.{Report}
@@ -48,9 +48,9 @@ answer_text Spent = codes "answer spent\n"
 abbrev pub tree_part : List Node → List ℕ
 tree_part nodes = codes "tree " ++ decimal (length nodes) ++ codes "\n" ++ tree_text nodes ++ codes "end\n"
 
--- the lines before the answer
+-- the lines before the answer, the first of which is that of the version
 abbrev pub head_text : Report → List ℕ
-head_text r = codes "unison " ++ decimal VERSION ++ codes "\nfunction " ++ r.name ++ codes "\n" ++ model_text r.options r.nodes
+head_text r = codes "unison " ++ decimal r.version ++ codes "\nfunction " ++ r.name ++ codes "\n" ++ model_text r.options r.nodes
 
 abbrev pub report_text : Report → List ℕ
 report_text r = head_text r ++ answer_text r.answer ++ tree_part r.tree.nodes.items

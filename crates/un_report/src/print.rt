@@ -5,7 +5,7 @@ ghost use Rattle.un_listing.specs.Listing.{code_lines, code_text};
 ghost use Rattle.un_report.specs.Reports.{after_number, numbers_text, regs_text, model_text, solution_text, listing_text, costs_text};
 ghost use Rattle.un_report.specs.Reports.{answer_text, tree_part, head_text, report_text};
 
-use crate::report::{Answered, NUMBERS, Report, VERSION};
+use crate::report::{Answered, NUMBERS, Report};
 use std::alloc::Global;
 use un_base::memory_error::NoMemory;
 use un_base::numbers::{advance, later};
@@ -143,7 +143,7 @@ fn put_head(out: &mut Vec<u8>, r: &Report) -> Result<(), NoMemory>
     ensures { OnOk result (out.new.items ≡ out.old.items ++ head_text r.now) }
 {
     put_text(out, b"unison ")?;
-    put_number(out, VERSION)?;
+    put_number(out, u64::from(r.version))?;
     put_text(out, b"\nfunction ")?;
     put_text(out, r.name.as_bytes())?;
     put_text(out, b"\n")?;

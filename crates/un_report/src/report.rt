@@ -5,9 +5,6 @@ use un_model::model::{Options, Solution};
 use un_packet::code::Code;
 use un_tree::node::Tree;
 
-/// The version of the reports that are printed.
-pub const VERSION: u64 = 1;
-
 /// How many numbers of a solution stand on a line.
 pub const NUMBERS: usize = 16;
 
@@ -28,6 +25,8 @@ pub enum Answered {
 /// A report: what a search answered for a function.
 #[derive(Drop)]
 pub struct Report {
+    /// Its version, 1 to the last: it says what the report may have, and by which table it is judged.
+    pub version: u8,
     /// The name of the function.
     pub name: Name,
     /// The options of its model: the registers and the frame slots that the search might use.

@@ -6,6 +6,8 @@ use un_model::model::Options;
 /// A report whose name and tree are slices of its text.
 #[derive(Drop)]
 pub struct ReportView<'a> {
+    /// Its version, 1 to the last: it says what the report may have, and by which table it is judged.
+    pub version: u8,
     /// The name of the function, as it stands in the text.
     pub name: &'a [u8],
     /// The options of its model: the registers and the frame slots that the search might use.

@@ -1,5 +1,6 @@
 pub mod Behind
 pub mod Cuts
+pub mod LimitLaws
 pub mod Listings
 pub mod NumberLaws
 pub mod Once

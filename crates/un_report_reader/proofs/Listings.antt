@@ -9,7 +9,7 @@ use Rattle.std.proofs.Math.Seq.{take-append_seam}
 use Rattle.un_base.proofs.LineLaws.{concat-pieces_of}
 use Rattle.un_base.specs.Lines.{is_line_feed, pieces_of, joined_lines}
 use Rattle.un_listing.specs.Listing.{packet_line, block_lines, code_lines, code_text}
-use Rattle.un_listing_reader.proofs.CodeBack.{one_code, refused}
+use Rattle.un_listing_reader.proofs.CodeBack.{one_code, refused_within}
 use Rattle.un_listing_reader.proofs.LineTexts.{IsSpelled, blocks_spelled, first_piece}
 use Rattle.un_listing_reader.specs.Reading.{lines_in, packet_lines}
 use Rattle.un_listing_reader.specs.declared.read.ListingError.TheVariants.{BadListing}
@@ -19,6 +19,9 @@ use Rattle.un_packet.specs.declared.code.CodeBlock.{CodeBlock}
 use Rattle.un_packet.specs.declared.code.Packet.{Packet}
 use Rattle.un_report_reader.specs.Answers.{IsBehindLines}
 use Rattle.un_report_reader.specs.FirstBad.{IsBadCode, first_lines}
+use Rattle.un_report_reader.specs.Limits.{AreSmall}
+use Rattle.un_report_reader.specs.Lines.{HasLines}
+use Rattle.un_report_reader.specs.declared.limits.Limits.{Limits}
 
 -- ---- the pieces of lines and more text
 
@@ -165,21 +168,22 @@ codes_once c d a b long e =
     (one_code (code_text c) c d refl texts, parts.1)
 
 -- and no line of one is bad
-pub no_bad_code : (count : ℕ) (c : Code) (rest text : List ℕ) (line : ℕ) → length (code_lines c) ≡ count → text ≡ code_text c ++ rest
-    → IsBadCode count text line → ⊥
-no_bad_code count c rest text line long is (inr bad) =
+pub no_bad_code : (l : Limits) → AreSmall l → (count : ℕ) (c : Code) (rest text : List ℕ) (line : ℕ) → HasLines l count c
+    → text ≡ code_text c ++ rest → IsBadCode l count text line → ⊥
+no_bad_code l small count c rest text line has is (inr bad) =
+    let long = has.0 in
     let pieces = ap (λ (t : List ℕ). length (pieces_of t)) is ∙ (ap length (code_pieces c rest)
     ∙ length-append (pieces_of (code_text c)) (pieces_of rest)) in
     let lines = code_counted c in
     let few = bad.0 in
     omega (arith, pieces, lines, long, few)
-no_bad_code count c rest text line long is (inl bad) =
+no_bad_code l small count c rest text line (long, few) is (inl bad) =
     let own : List (List ℕ) = pieces_of (code_text c) in
     let pieces : pieces_of text ≡ own ++ pieces_of rest = ap pieces_of is ∙ code_pieces c rest in
     let lines : first_lines count text ≡ code_text c =
     ap concat (ap (take count) pieces ∙ (ap (λ (n : ℕ). take n (own ++ pieces_of rest)) (sym long ∙ sym (code_counted c))
     ∙ take-append_seam own (pieces_of rest))) ∙ concat-pieces_of (code_text c) in
-    cc (refused (first_lines count text) (BadListing line) c bad.1 lines)
+    cc (refused_within l.frame small.frame (first_lines count text) (BadListing line) c bad.1 (lines, few))
 
 -- ---- texts that are empty, and that are not
 

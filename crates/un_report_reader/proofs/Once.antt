@@ -12,10 +12,12 @@ use Rattle.un_report.specs.Reports.{regs_text}
 use Rattle.un_report_reader.proofs.Cuts.{behind_once, number_once}
 use Rattle.un_report_reader.proofs.Seams.{number_seam, function_seam, settings_seam}
 use Rattle.un_report_reader.specs.FirstBad.{IsBadBehind, InLine, IsBadNode}
+use Rattle.un_report_reader.specs.Limits.{AreSmall}
 use Rattle.un_report_reader.specs.Lines.{one, number_text, IsName, function_text, AreSettings, settings_text, IsAny, kind_text, AreNodes}
 use Rattle.un_report_reader.specs.Lines.{IsPlain, end_text}
 use Rattle.un_report_reader.specs.Parts.{IsWithin}
 use Rattle.un_report_reader.specs.declared.kind.Kind.TheVariants as KindOf
+use Rattle.un_report_reader.specs.declared.limits.Limits.{Limits}
 use Rattle.un_tree.proofs.Cuts.{cut_once}
 use Rattle.un_tree.proofs.NodeLines.{digits_apart}
 use Rattle.un_tree.proofs.TreeTexts.{first_once, text_cons}
@@ -93,11 +95,12 @@ regs_once (Some m) (Some n) f g e = ap (λ (k : ℕ). Some k) (decimal_injective
 abbrev made : Option ℕ → ℕ → ℕ → Options × ℕ
 made regs slots nodes = (record { regs = regs; slots = slots }, nodes)
 
-pub settings_once : Once AreSettings settings_text
-settings_once v w a b gv gw e =
+pub settings_once : (l : Limits) → AreSmall l → Once (AreSettings l) settings_text
+settings_once l small v w a b gv gw e =
+    let most = small.slots in
     let front = behind_once (codes "model regs ") _ _ (sym (settings_seam v a) ∙ (e ∙ settings_seam w b)) in
     let regs = cut_once 32 (regs_text v.0.regs) (regs_text w.0.regs) _ _ (regs_free v.0.regs gv.0.regs) (regs_free w.0.regs gw.0.regs) front in
-    let slots = number_once (codes "slots ") 32 v.0.slots w.0.slots _ _ (omega arith) (omega (arith, gv.0.slots)) (omega (arith, gw.0.slots))
+    let slots = number_once (codes "slots ") 32 v.0.slots w.0.slots _ _ (omega arith) (omega (arith, gv.0.slots, most)) (omega (arith, gw.0.slots, most))
     regs.1 in
     let nodes = number_once (codes "nodes ") 10 v.1 w.1 a b (omega arith) (omega (arith, gv.1.1)) (omega (arith, gw.1.1)) slots.1 in
     let same = regs_once v.0.regs w.0.regs gv.0.regs gw.0.regs regs.0 in (

@@ -5,7 +5,7 @@ use Rattle.std.specs.Fmt.{digits}
 use Rattle.std.proofs.lemmas.List.Elements.{All-cons, All-nil, All-from_recursion}
 use Rattle.un_base.specs.Names.{is_name}
 use Rattle.un_commands.specs.Settings.{IsCountOfNodes}
-use Rattle.un_model.specs.Options.{AreOptions}
+use Rattle.un_isa.specs.Versions.{IsVersion}
 use Rattle.un_model.specs.declared.model.Options.{Options}
 use Rattle.un_report.specs.declared.report.Answered.{Answered}
 use Rattle.un_report.specs.declared.report.Answered.TheVariants.{Spent}
@@ -17,7 +17,8 @@ use Rattle.un_report_reader.proofs.WholeTexts.{IsText, flat, text_is_good}
 use Rattle.un_report_reader.specs.Answers.{IsAnswer}
 use Rattle.un_report_reader.specs.FirstBad.{BeginsNone, BehindKind, IsBadNumber, InFunction, InModel, InAnswer, InTree}
 use Rattle.un_report_reader.specs.FirstBad.{InNodes, InEnd, InNothing, IsFirstBad}
-use Rattle.un_report_reader.specs.Lines.{IsVersion, version_text, IsName, function_text, AreSettings, settings_text, IsAny, kind_text}
+use Rattle.un_report_reader.specs.Limits.{AreWithin, AreFewLines, limits_of}
+use Rattle.un_report_reader.specs.Lines.{version_text, IsName, function_text, AreSettings, settings_text, IsAny, kind_text}
 use Rattle.un_report_reader.specs.Lines.{IsShort, tree_head, IsPlain, end_text}
 use Rattle.un_report_reader.specs.Readings.{IsReportRead}
 use Rattle.un_report_reader.specs.declared.kind.Kind.TheVariants as KindOf
@@ -33,6 +34,7 @@ all_registers = record { regs = None; slots = 64 }
 
 -- the report of a search that stopped at once
 record IsStopped (r : Report) : Type 0 where
+  pub version : r.version ≡ 1
   pub name : r.name ≡ codes "f"
   pub options : r.options ≡ all_registers
   pub nodes : r.nodes ≡ 1
@@ -42,40 +44,43 @@ record IsStopped (r : Report) : Type 0 where
 abbrev stopped_text : List ℕ
 stopped_text = codes "unison 1\nfunction f\nmodel regs all slots 64 nodes 1\nanswer spent\ntree 1\nO\nend\n"
 
-well_set : AreSettings (all_registers, 1)
+well_set : AreSettings (limits_of 1) (all_registers, 1)
 well_set = (record { regs = tt; slots = omega arith }, (omega arith, omega arith))
 
 one_fits : All Fits (Open ∷ [])
 one_fits = All-cons Fits Open [] tt (All-nil Fits)
 
-whole_parts : IsText stopped_text (codes "f") all_registers 1 Spent 1 (tree_text (Open ∷ []))
+whole_parts : IsText stopped_text 1 (codes "f") all_registers 1 Spent 1 (tree_text (Open ∷ []))
 unfolding digits
-whole_parts = record { named = refl; settled = well_set; answered = tt; counted = (omega arith, omega arith); whole = refl }
+whole_parts = record { versioned = (omega arith, omega arith); named = refl; settled = well_set; answered = tt; counted = (omega arith, omega arith); whole = refl }
 
 no_line_is_bad : (line : ℕ) → ¬ IsFirstBad stopped_text line
 no_line_is_bad line bad =
-    text_is_good stopped_text (codes "f") all_registers 1 Spent 1 (Open ∷ []) line whole_parts (refl, one_fits) bad
+    text_is_good stopped_text 1 (codes "f") all_registers 1 Spent 1 (Open ∷ []) line whole_parts (refl, one_fits) bad
 
-stopped_flat : stopped_text ≡ flat (codes "f") all_registers 1 Spent 1 (tree_text (Open ∷ []))
+stopped_flat : stopped_text ≡ flat 1 (codes "f") all_registers 1 Spent 1 (tree_text (Open ∷ []))
 unfolding digits
 stopped_flat = refl
 
 is_read : (r : Report) → IsStopped r → IsReportRead stopped_text r
 is_read r h = record {
   is_report = record {
+    version = subst IsVersion (sym h.version) (omega arith, omega arith);
     name = ap is_name h.name;
-    options = subst AreOptions (sym h.options) well_set.0;
+    options = rw (h.version, h.options) well_set.0;
     nodes = subst IsCountOfNodes (sym h.nodes) well_set.1;
-    answer = subst IsAnswer (sym h.answer) tt;
-    count = subst (λ (ns : List Node). IsCountOfNodes (length ns)) (sym h.tree) (omega arith, omega arith);
+    answer = subst (IsAnswer (limits_of r.version)) (sym h.answer) tt;
+    count = subst (λ (v : ℕ). AreFewLines (limits_of v) (length r.tree.nodes.items)) (sym h.version)
+        (subst (λ (ns : List Node). AreFewLines (limits_of 1) (length ns)) (sym h.tree) (omega arith, omega arith));
     fit = subst (λ (ns : List Node). All Fits ns) (sym h.tree) one_fits;
   };
   spelled = stopped_flat ∙ sym (
-      ap (λ (name : List ℕ). flat name r.options r.nodes r.answer (length r.tree.nodes.items) (tree_text r.tree.nodes.items)) h.name
-      ∙ (ap (λ (o : Options). flat (codes "f") o r.nodes r.answer (length r.tree.nodes.items) (tree_text r.tree.nodes.items)) h.options
-      ∙ (ap (λ (n : ℕ). flat (codes "f") all_registers n r.answer (length r.tree.nodes.items) (tree_text r.tree.nodes.items)) h.nodes
-      ∙ (ap (λ (a : Answered). flat (codes "f") all_registers 1 a (length r.tree.nodes.items) (tree_text r.tree.nodes.items)) h.answer
-      ∙ ap (λ (ns : List Node). flat (codes "f") all_registers 1 Spent (length ns) (tree_text ns)) h.tree))));
+      ap (λ (v : ℕ). flat v r.name r.options r.nodes r.answer (length r.tree.nodes.items) (tree_text r.tree.nodes.items)) h.version
+      ∙ (ap (λ (name : List ℕ). flat 1 name r.options r.nodes r.answer (length r.tree.nodes.items) (tree_text r.tree.nodes.items)) h.name
+      ∙ (ap (λ (o : Options). flat 1 (codes "f") o r.nodes r.answer (length r.tree.nodes.items) (tree_text r.tree.nodes.items)) h.options
+      ∙ (ap (λ (n : ℕ). flat 1 (codes "f") all_registers n r.answer (length r.tree.nodes.items) (tree_text r.tree.nodes.items)) h.nodes
+      ∙ (ap (λ (a : Answered). flat 1 (codes "f") all_registers 1 a (length r.tree.nodes.items) (tree_text r.tree.nodes.items)) h.answer
+      ∙ ap (λ (ns : List Node). flat 1 (codes "f") all_registers 1 Spent (length ns) (tree_text ns)) h.tree)))));
 }
 
 -- ---- texts with a bad line
@@ -84,23 +89,23 @@ abbrev before_tree : List ℕ
 before_tree = codes "unison 1\nfunction f\nmodel regs all slots 64 nodes 1\nanswer spent\n"
 
 -- the bad line is behind the first four
-behind_four : (rest : List ℕ) (line : ℕ) → InTree rest line → IsFirstBad (before_tree ++ rest) (1 + (1 + (1 + (1 + line))))
+behind_four : (rest : List ℕ) (line : ℕ) → InTree (limits_of 1) rest line → IsFirstBad (before_tree ++ rest) (1 + (1 + (1 + (1 + line))))
 unfolding digits
 behind_four rest line bad =
-    behind_line IsVersion version_text (λ v. InFunction) 1 (before_tree ++ rest)
+    behind_line IsVersion version_text (λ v. InFunction (limits_of v)) 1 (before_tree ++ rest)
     (codes "function f\nmodel regs all slots 64 nodes 1\nanswer spent\n" ++ rest) (1 + (1 + (1 + line))) (omega arith, omega arith) refl
-    (behind_line IsName function_text (λ n. InModel) (codes "f")
+    (behind_line IsName function_text (λ n. InModel (limits_of 1)) (codes "f")
     (codes "function f\nmodel regs all slots 64 nodes 1\nanswer spent\n" ++ rest)
     (codes "model regs all slots 64 nodes 1\nanswer spent\n" ++ rest) (1 + (1 + line)) refl refl
-    (behind_line AreSettings settings_text (λ s. InAnswer) (all_registers, 1)
+    (behind_line (AreSettings (limits_of 1)) settings_text (λ s. InAnswer (limits_of 1)) (all_registers, 1)
     (codes "model regs all slots 64 nodes 1\nanswer spent\n" ++ rest) (codes "answer spent\n" ++ rest) (1 + line) well_set refl
-    (behind_line IsAny kind_text BehindKind KindOf.Spent (codes "answer spent\n" ++ rest) rest line tt refl bad)))
+    (behind_line IsAny kind_text (BehindKind (limits_of 1)) KindOf.Spent (codes "answer spent\n" ++ rest) rest line tt refl bad)))
 
 -- behind a tree of one node
-behind_node : (rest : List ℕ) (line : ℕ) → InEnd rest line → InTree (codes "tree 1\nO\n" ++ rest) (1 + (1 + line))
+behind_node : (rest : List ℕ) (line : ℕ) → InEnd rest line → InTree (limits_of 1) (codes "tree 1\nO\n" ++ rest) (1 + (1 + line))
 unfolding digits
 behind_node rest line bad =
-    behind_line IsCountOfNodes tree_head InNodes 1 (codes "tree 1\nO\n" ++ rest) (codes "O\n" ++ rest) (1 + line)
+    behind_line (AreFewLines (limits_of 1)) tree_head InNodes 1 (codes "tree 1\nO\n" ++ rest) (codes "O\n" ++ rest) (1 + line)
     (omega arith, omega arith) refl
     (inr (record {
       value = Open ∷ [];
@@ -121,7 +126,7 @@ past_end : IsFirstBad (codes "unison 1\nfunction f\nmodel regs all slots 64 node
 past_end = behind_four (codes "tree 1\nO\nend\nend\n") 4 (behind_node (codes "end\nend\n") 2
     (behind_line IsPlain end_text (λ v. InNothing) tt (codes "end\nend\n") (codes "end\n") 1 tt refl ((λ e. cc e), refl)))
 
-not_none : BeginsNone IsCountOfNodes tree_head (codes "tree 0\nend\n")
+not_none : BeginsNone (AreFewLines (limits_of 1)) tree_head (codes "tree 0\nend\n")
 unfolding digits
 not_none count rest good e =
     let same = (number_line_once (codes "tree ") 0 200000 (omega arith) 0 count (codes "end\n") rest (omega arith, omega arith)

@@ -16,6 +16,7 @@ use Rattle.un_report_reader.specs.Answers.{IsAnswer, answer_lines}
 use Rattle.un_report_reader.specs.Errors.{IsErrorAt, IsRead}
 use Rattle.un_report_reader.specs.FirstBad.{InVersion, InAnswer, InTree, InEnd}
 use Rattle.un_report_reader.specs.Heads.{HeadValue, IsHead, head_text, three}
+use Rattle.un_report_reader.specs.Limits.{limits_of}
 use Rattle.un_report_reader.specs.Lines.{version_text, function_text, settings_text, tree_head, end_text}
 use Rattle.un_report_reader.specs.Readings.{IsReport, IsView, IsErrorOf, IsViewRead, IsViewBack, IsReportRead, AreSame, IsReportBack}
 use Rattle.un_report_reader.specs.Trees.{IsTree, lines_text, tree_lines, IsTreeRead}
@@ -28,43 +29,44 @@ use Rattle.un_tree.specs.Texts.{tree_text}
 -- ---- errors in the parts of a report
 
 pub in_answer : (text : List ℕ) (at : Place) (h : HeadValue) (second : Place) (e : ReportError) → at.rest.now ≡ text → at.lines ≡ 0
-    → IsRead IsHead head_text three at h second → IsErrorAt InAnswer second e → IsErrorOf text e
+    → IsRead IsHead head_text three at h second → IsErrorAt (InAnswer (limits_of h.0)) second e → IsErrorOf text e
 in_answer text at h second e same none r bad =
-    error_at_start text at e same none (through IsHead head_text three InAnswer InVersion at h second r
+    error_at_start text at e same none (through IsHead head_text three (InAnswer (limits_of h.0)) InVersion at h second r
     (λ t rest line g w b. behind_head h t rest line g w b) e bad)
 
 pub in_tree : (text : List ℕ) (at : Place) (h : HeadValue) (second : Place) (a : Answered) (third : Place) (e : ReportError)
     → at.rest.now ≡ text → at.lines ≡ 0
-    → IsRead IsHead head_text three at h second → IsRead IsAnswer answer_text answer_lines second a third → IsErrorAt InTree third e
+    → IsRead IsHead head_text three at h second → IsRead (IsAnswer (limits_of h.0)) answer_text answer_lines second a third → IsErrorAt (InTree (limits_of h.0)) third e
     → IsErrorOf text e
 in_tree text at h second a third e same none r s bad =
-    in_answer text at h second e same none r (through IsAnswer answer_text answer_lines InTree InAnswer second a third s
-    (λ t rest line g w b. behind_answer a t rest line g w b) e bad)
+    in_answer text at h second e same none r (through (IsAnswer (limits_of h.0)) answer_text answer_lines (InTree (limits_of h.0)) (InAnswer (limits_of h.0)) second a third s
+    (λ t rest line g w b. behind_answer (limits_of h.0) a t rest line g w b) e bad)
 
 pub in_end : (text : List ℕ) (at : Place) (h : HeadValue) (second : Place) (a : Answered) (third : Place) (t : Lines) (fourth : Place)
     (e : ReportError) → at.rest.now ≡ text → at.lines ≡ 0
-    → IsRead IsHead head_text three at h second → IsRead IsAnswer answer_text answer_lines second a third → IsTreeRead third t fourth
+    → IsRead IsHead head_text three at h second → IsRead (IsAnswer (limits_of h.0)) answer_text answer_lines second a third → IsTreeRead (limits_of h.0) third t fourth
     → IsErrorAt InEnd fourth e → IsErrorOf text e
 in_end text at h second a third t fourth e same none r s u bad =
-    in_tree text at h second a third e same none r s (through IsTree lines_text tree_lines InEnd InTree third t fourth u
-    (λ x rest line g w b. behind_tree t x rest line g w b) e bad)
+    in_tree text at h second a third e same none r s (through (IsTree (limits_of h.0)) lines_text tree_lines InEnd (InTree (limits_of h.0)) third t fourth u
+    (λ x rest line g w b. behind_tree (limits_of h.0) t x rest line g w b) e bad)
 
 -- the parts make a view
 pub view_read : (text : List ℕ) (at : Place) (h : HeadValue) (second : Place) (a : Answered) (third : Place) (t : Lines) (fourth : Place)
     (v : ReportView) → at.rest.now ≡ text → IsRead IsHead head_text three at h second
-    → IsRead IsAnswer answer_text answer_lines second a third → IsTreeRead third t fourth → fourth.rest.now ≡ end_text tt
-    → v.name.now ≡ h.0 → v.options ≡ h.1 → v.nodes ≡ h.2 → v.answer ≡ a → v.tree.now ≡ t.text.now → v.count ≡ t.count
+    → IsRead (IsAnswer (limits_of h.0)) answer_text answer_lines second a third → IsTreeRead (limits_of h.0) third t fourth → fourth.rest.now ≡ end_text tt
+    → v.version ≡ h.0 → v.name.now ≡ h.1 → v.options ≡ h.2 → v.nodes ≡ h.3 → v.answer ≡ a → v.tree.now ≡ t.text.now → v.count ≡ t.count
     → IsViewRead text v
-view_read text at h second a third t fourth v same r s u ends name options nodes answer tree count = record {
+view_read text at h second a third t fourth v same r s u ends version name options nodes answer tree count = record {
   is_view = record {
-    name = rw name (r.is_good.0);
-    options = rw options (r.is_good.1.0);
-    nodes = rw nodes (r.is_good.1.1);
-    answer = rw answer s.is_good;
-    count = rw count u.is_good.0;
+    version = rw version (r.is_good.0);
+    name = rw name (r.is_good.1);
+    options = rw (version, options) (r.is_good.2.0);
+    nodes = rw nodes (r.is_good.2.1);
+    answer = rw (version, answer) s.is_good;
+    count = rw (version, count) u.is_good.0;
     tree = rw (tree, count) u.is_good.1;
   };
-  spelled = sym same ∙ (whole ∙ (sym (flat_seam h.0 h.1 h.2 a t.count t.text.now) ∙ sym flats));
+  spelled = sym same ∙ (whole ∙ (sym (flat_seam h.0 h.1 h.2 h.3 a t.count t.text.now) ∙ sym flats));
 }
   where
     lists_seam : (x y z rest : List ℕ) → (x ++ (y ++ z)) ++ rest ≡ x ++ (y ++ (z ++ rest))
@@ -74,18 +76,19 @@ view_read text at h second a third t fourth v same r s u ends name options nodes
     tree_whole = u.whole ∙ (ap (λ (m : List ℕ). (tree_head t.count ++ t.text.now) ++ m) ends
         ∙ append_assoc (tree_head t.count) t.text.now (codes "end\n"))
 
-    whole : at.rest.now ≡ version_text 1 ++ (function_text h.0 ++ (settings_text (h.1, h.2) ++ (answer_text a
+    whole : at.rest.now ≡ version_text h.0 ++ (function_text h.1 ++ (settings_text (h.2, h.3) ++ (answer_text a
         ++ (tree_head t.count ++ (t.text.now ++ codes "end\n")))))
     whole = r.whole ∙ (ap (λ (m : List ℕ). head_text h ++ m) (s.whole ∙ ap (λ (m : List ℕ). answer_text a ++ m) tree_whole)
-        ∙ lists_seam (version_text 1) (function_text h.0) (settings_text (h.1, h.2))
+        ∙ lists_seam (version_text h.0) (function_text h.1) (settings_text (h.2, h.3))
         (answer_text a ++ (tree_head t.count ++ (t.text.now ++ codes "end\n"))))
 
-    flats : view_text v ≡ flat h.0 h.1 h.2 a t.count t.text.now
-    flats = ap (λ (x : List ℕ). flat x v.options v.nodes v.answer v.count v.tree.now) name
-        ∙ (ap (λ (x : Options). flat h.0 x v.nodes v.answer v.count v.tree.now) options
-        ∙ (ap (λ (x : ℕ). flat h.0 h.1 x v.answer v.count v.tree.now) nodes
-        ∙ (ap (λ (x : Answered). flat h.0 h.1 h.2 x v.count v.tree.now) answer
-        ∙ (ap (λ (x : ℕ). flat h.0 h.1 h.2 a x v.tree.now) count ∙ ap (λ (x : List ℕ). flat h.0 h.1 h.2 a t.count x) tree))))
+    flats : view_text v ≡ flat h.0 h.1 h.2 h.3 a t.count t.text.now
+    flats = ap (λ (x : ℕ). flat x v.name.now v.options v.nodes v.answer v.count v.tree.now) version
+        ∙ (ap (λ (x : List ℕ). flat h.0 x v.options v.nodes v.answer v.count v.tree.now) name
+        ∙ (ap (λ (x : Options). flat h.0 h.1 x v.nodes v.answer v.count v.tree.now) options
+        ∙ (ap (λ (x : ℕ). flat h.0 h.1 h.2 x v.answer v.count v.tree.now) nodes
+        ∙ (ap (λ (x : Answered). flat h.0 h.1 h.2 h.3 x v.count v.tree.now) answer
+        ∙ (ap (λ (x : ℕ). flat h.0 h.1 h.2 h.3 a x v.tree.now) count ∙ ap (λ (x : List ℕ). flat h.0 h.1 h.2 h.3 a t.count x) tree)))))
 
 -- ---- what reading a view answers to a report's text
 
@@ -98,12 +101,13 @@ view_whole text (Err e) ok bad r good is = error_back text r e good is bad
 
 pub view_is : (s : Report) (v : ReportView) → IsViewOf s v → view_text v ≡ report_text s
 view_is s v h =
-    ap (λ (x : List ℕ). flat x v.options v.nodes v.answer v.count v.tree.now) h.name
-    ∙ (ap (λ (x : Options). flat s.name x v.nodes v.answer v.count v.tree.now) h.options
-    ∙ (ap (λ (x : ℕ). flat s.name s.options x v.answer v.count v.tree.now) h.nodes
-    ∙ (ap (λ (x : Answered). flat s.name s.options s.nodes x v.count v.tree.now) h.answer
-    ∙ (ap (λ (x : ℕ). flat s.name s.options s.nodes s.answer x v.tree.now) h.count
-    ∙ ap (λ (x : List ℕ). flat s.name s.options s.nodes s.answer (length s.tree.nodes.items) x) h.tree))))
+    ap (λ (x : ℕ). flat x v.name.now v.options v.nodes v.answer v.count v.tree.now) h.version
+    ∙ (ap (λ (x : List ℕ). flat s.version x v.options v.nodes v.answer v.count v.tree.now) h.name
+    ∙ (ap (λ (x : Options). flat s.version s.name x v.nodes v.answer v.count v.tree.now) h.options
+    ∙ (ap (λ (x : ℕ). flat s.version s.name s.options x v.answer v.count v.tree.now) h.nodes
+    ∙ (ap (λ (x : Answered). flat s.version s.name s.options s.nodes x v.count v.tree.now) h.answer
+    ∙ (ap (λ (x : ℕ). flat s.version s.name s.options s.nodes s.answer x v.tree.now) h.count
+    ∙ ap (λ (x : List ℕ). flat s.version s.name s.options s.nodes s.answer (length s.tree.nodes.items) x) h.tree)))))
 
 pub report_read : (text : List ℕ) (v : ReportView) (s : Report) → IsViewRead text v → IsReport s → IsViewOf s v → IsReportRead text s
 report_read text v s h good of = record { is_report = good; spelled = h.spelled ∙ view_is s v of }
@@ -114,6 +118,7 @@ same_reports v r s gr gs of_r of_s =
     let nodes : length s.tree.nodes.items ≡ length r.tree.nodes.items = sym of_s.count ∙ of_r.count in
     let trees : tree_text s.tree.nodes.items ≡ tree_text r.tree.nodes.items = sym of_s.tree ∙ of_r.tree in
     record {
+      version = sym of_s.version ∙ of_r.version;
       name = sym of_s.name ∙ of_r.name;
       options = sym of_s.options ∙ of_r.options;
       nodes = sym of_s.nodes ∙ of_r.nodes;
@@ -123,19 +128,21 @@ same_reports v r s gr gs of_r of_s =
     }
 
 -- the nodes that are read from a view's lines are those that the lines are of
-pub report_made : (v : ReportView) (s : Report) (h : IsView v) → s.name ≡ v.name.now → s.options ≡ v.options → s.nodes ≡ v.nodes
+pub report_made : (v : ReportView) (s : Report) (h : IsView v) → s.version ≡ v.version → s.name ≡ v.name.now → s.options ≡ v.options → s.nodes ≡ v.nodes
     → s.answer ≡ v.answer → s.tree.nodes.items ≡ h.tree.nodes → IsReport s × IsViewOf s v
-report_made v s h name options nodes answer tree =
+report_made v s h version name options nodes answer tree =
     let counted = h.tree.are.0 in (
       record {
+        version = rw version h.version;
         name = rw name h.name;
-        options = rw options h.options;
+        options = rw (version, options) h.options;
         nodes = rw nodes h.nodes;
-        answer = rw answer h.answer;
-        count = rw (tree, counted) h.count;
+        answer = rw (version, answer) h.answer;
+        count = rw (version, tree, counted) h.count;
         fit = rw tree h.tree.are.1;
       },
       record {
+        version = sym version;
         name = sym name;
         options = sym options;
         nodes = sym nodes;

@@ -1,5 +1,5 @@
 -- The answer, as one part, and its own parts.
-use Rattle.std.specs.Prelude.{ℕ, ◌≡◌, ◌+◌, ⊤, List, [], ◌++◌, All, length}
+use Rattle.std.specs.Prelude.{ℕ, ◌≡◌, ◌+◌, ◌≤◌, ⊤, List, [], ◌++◌, All, length}
 use Rattle.un_base.specs.Lines.{pieces_of}
 use Rattle.un_listing.specs.Listing.{code_lines}
 use Rattle.un_listing_reader.specs.declared.read.ListingError.{ListingError}
@@ -14,6 +14,7 @@ use Rattle.un_report_reader.specs.declared.error.ReportError.{ReportError}
 use Rattle.un_report_reader.specs.declared.error.ReportError.TheVariants.{NoMemory}
 use Rattle.un_report_reader.specs.declared.kind.Kind.{Kind}
 use Rattle.un_report_reader.specs.declared.kind.Kind.TheVariants as KindOf
+use Rattle.un_report_reader.specs.declared.limits.Limits.{Limits}
 use Rattle.un_report_reader.specs.declared.place.Place.{Place}
 
 -- ---- cost and bound
@@ -40,15 +41,15 @@ abbrev pub IsErrorFrom : Place → ListingError → ReportError → Type 0
 IsErrorFrom at ListingErrors.NoMemory e = e ≡ NoMemory
 IsErrorFrom at (ListingErrors.BadListing line) e = Names (at.lines + line) e
 
--- the number of its lines is one of 32 bits
-abbrev pub IsListed : CodeValue → Type 0
-IsListed c = IsShort (length (code_lines c))
+-- the number of its lines is one of 32 bits, and its frame is not too large
+abbrev pub IsListed : Limits → CodeValue → Type 0
+IsListed l c = IsShort (length (code_lines c)) × (c.frame ≤ l.frame)
 
 abbrev pub listing_lines : CodeValue → ℕ
 listing_lines c = 1 + length (code_lines c)
 
-abbrev pub IsListingRead : Place → CodeValue → Place → Type 0
-IsListingRead = IsRead IsListed listing_text listing_lines
+abbrev pub IsListingRead : Limits → Place → CodeValue → Place → Type 0
+IsListingRead l = IsRead (IsListed l) listing_text listing_lines
 
 -- ---- the solution
 
@@ -70,10 +71,10 @@ kind_of Infeasible = KindOf.Infeasible
 kind_of Spent = KindOf.Spent
 
 -- its numbers are of 64 bits and of 32 bits, as they are in a report
-abbrev pub IsAnswer : Answered → Type 0
-IsAnswer (Code cost bound code solution) = IsLong cost × IsLong bound × IsListed code × AreValues solution.values
-IsAnswer Infeasible = ⊤
-IsAnswer Spent = ⊤
+abbrev pub IsAnswer : Limits → Answered → Type 0
+IsAnswer l (Code cost bound code solution) = IsLong cost × IsLong bound × IsListed l code × AreValues solution.values
+IsAnswer l Infeasible = ⊤
+IsAnswer l Spent = ⊤
 
 -- what stands behind the line of its kind
 abbrev pub behind_kind : Answered → List ℕ
@@ -91,6 +92,6 @@ abbrev pub answer_lines : Answered → ℕ
 answer_lines a = 1 + lines_behind a
 
 -- code behind the line of its kind
-pub record IsCodeRead (at : Place) (a : Answered) (next : Place) : Type 0 where
+pub record IsCodeRead (l : Limits) (at : Place) (a : Answered) (next : Place) : Type 0 where
   pub is_code : kind_of a ≡ KindOf.Code
-  pub is_read : IsRead IsAnswer behind_kind lines_behind at a next
+  pub is_read : IsRead (IsAnswer l) behind_kind lines_behind at a next

@@ -1,17 +1,20 @@
 -- The first line of a text that is outside the grammar of reports. Each relation here is of what is left of a text at a part of a
 -- report and of a line, counted from there: the part is not there, and this is its first bad line, or it is, and the line is behind it.
+-- What stands behind the version is read by the version's limits.
 use Rattle.std.specs.Prelude.{ℕ, ◌≡◌, ◌≢◌, ◌+◌, ◌/◌, ◌<◌, ◌≤◌, ◌⊎◌, List, [], ◌++◌, All, codes, decimal, length, take}
 use Rattle.std.specs.List.{concat}
 use Rattle.un_base.specs.Lines.{pieces_of}
-use Rattle.un_commands.specs.Settings.{IsCountOfNodes}
+use Rattle.un_isa.specs.Versions.{IsVersion}
 use Rattle.un_listing.specs.Listing.{code_text}
-use Rattle.un_listing_reader.specs.Reading.{IsFirstBad as IsBadListing}
+use Rattle.un_listing_reader.specs.Reading.{IsFirstBadWithin}
 use Rattle.un_packet.specs.declared.code.Code.{Code}
 use Rattle.un_report.specs.declared.report.TheConstants.{NUMBERS}
 use Rattle.un_report.specs.Reports.{after_number, numbers_from, numbers_text}
 use Rattle.un_report_reader.specs.declared.kind.Kind.{Kind}
 use Rattle.un_report_reader.specs.declared.kind.Kind.TheVariants as KindOf
-use Rattle.un_report_reader.specs.Lines.{one, IsVersion, version_text, IsName, function_text, AreSettings, settings_text, IsAny, kind_text}
+use Rattle.un_report_reader.specs.declared.limits.Limits.{Limits}
+use Rattle.un_report_reader.specs.Limits.{limits_of, AreFewLines}
+use Rattle.un_report_reader.specs.Lines.{one, version_text, IsName, function_text, AreSettings, settings_text, IsAny, kind_text}
 use Rattle.un_report_reader.specs.Lines.{IsLong, IsShort, cost_text, bound_text, listing_head, HasLines, solution_head, AreNumbers}
 use Rattle.un_report_reader.specs.Lines.{line_count, tree_head, AreNodes, IsPlain, end_text}
 use Rattle.un_tree.specs.declared.node.Node.{Node}
@@ -66,8 +69,8 @@ pub record IsBadNode (count : ℕ) (text : List ℕ) (line : ℕ) : Type 0 where
 abbrev pub InNodes : ℕ → List ℕ → ℕ → Type 0
 InNodes count text line = IsBadNode count text line ⊎ IsBadBehind (AreNodes count) tree_text length (λ nodes. InEnd) text line
 
-abbrev pub InTree : List ℕ → ℕ → Type 0
-InTree = InLine IsCountOfNodes tree_head InNodes
+abbrev pub InTree : Limits → List ℕ → ℕ → Type 0
+InTree l = InLine (AreFewLines l) tree_head InNodes
 
 -- ---- the solution
 
@@ -88,12 +91,12 @@ pub record IsBadNumber (count : ℕ) (text : List ℕ) (line : ℕ) : Type 0 whe
 abbrev pub numbers_lines : List ℕ → ℕ
 numbers_lines xs = line_count (length xs)
 
-abbrev pub InNumbers : ℕ → List ℕ → ℕ → Type 0
-InNumbers count text line =
-    IsBadNumber count text line ⊎ IsBadBehind (AreNumbers count) numbers_text numbers_lines (λ xs. InTree) text line
+abbrev pub InNumbers : Limits → ℕ → List ℕ → ℕ → Type 0
+InNumbers l count text line =
+    IsBadNumber count text line ⊎ IsBadBehind (AreNumbers count) numbers_text numbers_lines (λ xs. InTree l) text line
 
-abbrev pub InSolution : List ℕ → ℕ → Type 0
-InSolution = InLine IsShort solution_head InNumbers
+abbrev pub InSolution : Limits → List ℕ → ℕ → Type 0
+InSolution l = InLine IsShort solution_head (InNumbers l)
 
 -- ---- the listing
 
@@ -101,47 +104,47 @@ abbrev pub first_lines : ℕ → List ℕ → List ℕ
 first_lines count text = concat (take count (pieces_of text))
 
 -- the bad line of a listing is that of so many lines; where lines are missing, the text goes on with a byte that ends none
-abbrev pub IsBadCode : ℕ → List ℕ → ℕ → Type 0
-IsBadCode count text line =
-    ((count ≤ length (pieces_of text)) × IsBadListing (first_lines count text) line)
-    ⊎ ((length (pieces_of text) < count) × IsBadListing (text ++ codes "?") line)
+abbrev pub IsBadCode : Limits → ℕ → List ℕ → ℕ → Type 0
+IsBadCode l count text line =
+    ((count ≤ length (pieces_of text)) × IsFirstBadWithin l.frame (first_lines count text) line)
+    ⊎ ((length (pieces_of text) < count) × IsFirstBadWithin l.frame (text ++ codes "?") line)
 
 abbrev pub lines_in_code : ℕ → Code → ℕ
 lines_in_code count c = count
 
-abbrev pub InCode : ℕ → List ℕ → ℕ → Type 0
-InCode count text line =
-    IsBadCode count text line ⊎ IsBadBehind (HasLines count) code_text (lines_in_code count) (λ c. InSolution) text line
+abbrev pub InCode : Limits → ℕ → List ℕ → ℕ → Type 0
+InCode l count text line =
+    IsBadCode l count text line ⊎ IsBadBehind (HasLines l count) code_text (lines_in_code count) (λ c. InSolution l) text line
 
-abbrev pub InListing : List ℕ → ℕ → Type 0
-InListing = InLine IsShort listing_head InCode
+abbrev pub InListing : Limits → List ℕ → ℕ → Type 0
+InListing l = InLine IsShort listing_head (InCode l)
 
 -- ---- the answer
 
-abbrev pub InBound : List ℕ → ℕ → Type 0
-InBound = InLine IsLong bound_text (λ bound. InListing)
+abbrev pub InBound : Limits → List ℕ → ℕ → Type 0
+InBound l = InLine IsLong bound_text (λ bound. InListing l)
 
-abbrev pub InCost : List ℕ → ℕ → Type 0
-InCost = InLine IsLong cost_text (λ cost. InBound)
+abbrev pub InCost : Limits → List ℕ → ℕ → Type 0
+InCost l = InLine IsLong cost_text (λ cost. InBound l)
 
-abbrev pub BehindKind : Kind → List ℕ → ℕ → Type 0
-BehindKind KindOf.Code = InCost
-BehindKind KindOf.Infeasible = InTree
-BehindKind KindOf.Spent = InTree
+abbrev pub BehindKind : Limits → Kind → List ℕ → ℕ → Type 0
+BehindKind l KindOf.Code = InCost l
+BehindKind l KindOf.Infeasible = InTree l
+BehindKind l KindOf.Spent = InTree l
 
-abbrev pub InAnswer : List ℕ → ℕ → Type 0
-InAnswer = InLine IsAny kind_text BehindKind
+abbrev pub InAnswer : Limits → List ℕ → ℕ → Type 0
+InAnswer l = InLine IsAny kind_text (BehindKind l)
 
 -- ---- the head
 
-abbrev pub InModel : List ℕ → ℕ → Type 0
-InModel = InLine AreSettings settings_text (λ settings. InAnswer)
+abbrev pub InModel : Limits → List ℕ → ℕ → Type 0
+InModel l = InLine (AreSettings l) settings_text (λ settings. InAnswer l)
 
-abbrev pub InFunction : List ℕ → ℕ → Type 0
-InFunction = InLine IsName function_text (λ name. InModel)
+abbrev pub InFunction : Limits → List ℕ → ℕ → Type 0
+InFunction l = InLine IsName function_text (λ name. InModel l)
 
 abbrev pub InVersion : List ℕ → ℕ → Type 0
-InVersion = InLine IsVersion version_text (λ v. InFunction)
+InVersion = InLine IsVersion version_text (λ v. InFunction (limits_of v))
 
 -- the first line outside the grammar, counted from 1
 abbrev pub IsFirstBad : List ℕ → ℕ → Type 0

@@ -2,6 +2,7 @@ pub mod Answers
 pub mod Errors
 pub mod FirstBad
 pub mod Heads
+pub mod Limits
 pub mod Lines
 pub mod Parts
 pub mod Readings

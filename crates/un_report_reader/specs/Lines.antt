@@ -1,16 +1,17 @@
 -- The parts of a report, one after another: the text of each, which values it may have, and how many lines it takes.
-use Rattle.std.specs.Prelude.{ℕ, ◌≡◌, ◌+◌, ◌-◌, ◌/◌, ◌^◌, true, List, ◌++◌, All, codes, decimal, length}
+use Rattle.std.specs.Prelude.{ℕ, ◌≡◌, ◌+◌, ◌-◌, ◌/◌, ◌^◌, ◌≤◌, true, List, ◌++◌, All, codes, decimal, length}
 use Rattle.un_base.specs.Names.{is_name}
 use Rattle.un_commands.specs.Settings.{IsCountOfNodes}
 use Rattle.un_listing.specs.Listing.{code_lines}
 use Rattle.un_model.specs.declared.model.Options.{Options}
-use Rattle.un_model.specs.Options.{AreOptions}
 use Rattle.un_packet.specs.declared.code.Code.{Code}
-use Rattle.un_report.specs.declared.report.TheConstants.{VERSION, NUMBERS}
+use Rattle.un_report.specs.declared.report.TheConstants.{NUMBERS}
 use Rattle.un_report.specs.Reports.{model_text}
+use Rattle.un_report_reader.specs.Limits.{AreWithin}
 use Rattle.un_report_reader.specs.Parts.{IsWithin}
 use Rattle.un_report_reader.specs.declared.kind.Kind.{Kind}
 use Rattle.un_report_reader.specs.declared.kind.Kind.TheVariants as KindOf
+use Rattle.un_report_reader.specs.declared.limits.Limits.{Limits}
 use Rattle.un_tree.specs.declared.node.Node.{Node}
 use Rattle.un_tree.specs.Texts.{Fits}
 
@@ -24,10 +25,7 @@ one v = 1
 abbrev pub number_text : List ℕ → ℕ → List ℕ
 number_text word n = word ++ (decimal n ++ codes "\n")
 
--- the version of the reports that are read
-abbrev pub IsVersion : ℕ → Type 0
-IsVersion = IsWithin VERSION VERSION
-
+-- the line of the version
 abbrev pub version_text : ℕ → List ℕ
 version_text = number_text (codes "unison ")
 
@@ -38,8 +36,8 @@ abbrev pub function_text : List ℕ → List ℕ
 function_text name = codes "function " ++ (name ++ codes "\n")
 
 -- the options of a model, and how many nodes a search was given
-abbrev pub AreSettings : (Options × ℕ) → Type 0
-AreSettings s = AreOptions s.0 × IsCountOfNodes s.1
+abbrev pub AreSettings : Limits → (Options × ℕ) → Type 0
+AreSettings l s = AreWithin l s.0 × IsCountOfNodes s.1
 
 abbrev pub settings_text : (Options × ℕ) → List ℕ
 settings_text s = model_text s.0 s.1
@@ -67,12 +65,12 @@ cost_text = number_text (codes "cost ")
 abbrev pub bound_text : ℕ → List ℕ
 bound_text = number_text (codes "bound ")
 
--- how many lines a listing has
+-- how many lines a listing has, and that its frame is not too large
 abbrev pub listing_head : ℕ → List ℕ
 listing_head = number_text (codes "listing ")
 
-abbrev pub HasLines : ℕ → Code → Type 0
-HasLines count c = length (code_lines c) ≡ count
+abbrev pub HasLines : Limits → ℕ → Code → Type 0
+HasLines l count c = (length (code_lines c) ≡ count) × (c.frame ≤ l.frame)
 
 -- how many numbers a solution has
 abbrev pub solution_head : ℕ → List ℕ

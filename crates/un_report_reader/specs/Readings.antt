@@ -1,35 +1,39 @@
 -- Which reports have a text that is read, and what is read.
 use Rattle.std.specs.Prelude.{ℕ, ◌≡◌, ⊤, List, Result, Ok, Err, All, length}
 use Rattle.un_commands.specs.Settings.{IsCountOfNodes}
-use Rattle.un_model.specs.Options.{AreOptions}
+use Rattle.un_isa.specs.Versions.{IsVersion}
 use Rattle.un_report.specs.Reports.{report_text}
 use Rattle.un_report.specs.Views.{IsViewOf, view_text}
 use Rattle.un_report.specs.declared.report.Report.{Report}
 use Rattle.un_report.specs.declared.view.ReportView.{ReportView}
 use Rattle.un_report_reader.specs.Answers.{IsAnswer}
 use Rattle.un_report_reader.specs.FirstBad.{IsFirstBad}
+use Rattle.un_report_reader.specs.Limits.{limits_of, AreWithin, AreFewLines}
 use Rattle.un_report_reader.specs.Lines.{IsName}
 use Rattle.un_report_reader.specs.Trees.{AreNodeLines}
 use Rattle.un_report_reader.specs.declared.error.ReportError.{ReportError}
 use Rattle.un_report_reader.specs.declared.error.ReportError.TheVariants.{NoMemory, BadReport}
 use Rattle.un_tree.specs.Texts.{Fits}
 
--- the options and the nodes are those that a search may be asked for, the numbers fit, and the tree has some nodes and not too many
+-- there is such a version, and the slots, the frame and the tree are within its limits; the nodes are those that a search may be asked
+-- for, the numbers fit, and the tree has some nodes
 pub record IsReport (r : Report) : Type 0 where
+  pub version : IsVersion r.version
   pub name : IsName r.name
-  pub options : AreOptions r.options
+  pub options : AreWithin (limits_of r.version) r.options
   pub nodes : IsCountOfNodes r.nodes
-  pub answer : IsAnswer r.answer
-  pub count : IsCountOfNodes (length r.tree.nodes.items)
+  pub answer : IsAnswer (limits_of r.version) r.answer
+  pub count : AreFewLines (limits_of r.version) (length r.tree.nodes.items)
   pub fit : All Fits r.tree.nodes.items
 
 -- the same of a view, whose tree is the lines of so many nodes
 pub record IsView (v : ReportView) : Type 0 where
+  pub version : IsVersion v.version
   pub name : IsName v.name.now
-  pub options : AreOptions v.options
+  pub options : AreWithin (limits_of v.version) v.options
   pub nodes : IsCountOfNodes v.nodes
-  pub answer : IsAnswer v.answer
-  pub count : IsCountOfNodes v.count
+  pub answer : IsAnswer (limits_of v.version) v.answer
+  pub count : AreFewLines (limits_of v.version) v.count
   pub tree : AreNodeLines v.count v.tree.now
 
 -- the text is that of a report, of which this is the view
@@ -54,6 +58,7 @@ IsViewBack r (Err e) = e ≡ NoMemory
 
 -- two reports have the same fields
 pub record AreSame (r s : Report) : Type 0 where
+  pub version : s.version ≡ r.version
   pub name : s.name ≡ r.name
   pub options : s.options ≡ r.options
   pub nodes : s.nodes ≡ r.nodes

@@ -1,8 +1,9 @@
 -- The tree of a report, as one part.
 use Rattle.std.specs.Prelude.{ℕ, ◌≡◌, ◌+◌, List, ◌++◌}
-use Rattle.un_commands.specs.Settings.{IsCountOfNodes}
 use Rattle.un_report_reader.specs.Errors.{IsRead}
+use Rattle.un_report_reader.specs.Limits.{AreFewLines}
 use Rattle.un_report_reader.specs.Lines.{tree_head, AreNodes}
+use Rattle.un_report_reader.specs.declared.limits.Limits.{Limits}
 use Rattle.un_report_reader.specs.declared.place.Place.{Place}
 use Rattle.un_report_reader.specs.declared.tree.Lines.{Lines}
 use Rattle.un_tree.specs.Texts.{tree_text}
@@ -24,8 +25,8 @@ abbrev pub IsNodesRead : ℕ → Place → List ℕ → Place → Type 0
 IsNodesRead count = IsRead (AreNodeLines count) same (always count)
 
 -- the lines of a tree and their number
-abbrev pub IsTree : Lines → Type 0
-IsTree t = IsCountOfNodes t.count × AreNodeLines t.count t.text.now
+abbrev pub IsTree : Limits → Lines → Type 0
+IsTree l t = AreFewLines l t.count × AreNodeLines t.count t.text.now
 
 abbrev pub lines_text : Lines → List ℕ
 lines_text t = tree_head t.count ++ t.text.now
@@ -33,5 +34,5 @@ lines_text t = tree_head t.count ++ t.text.now
 abbrev pub tree_lines : Lines → ℕ
 tree_lines t = 1 + t.count
 
-abbrev pub IsTreeRead : Place → Lines → Place → Type 0
-IsTreeRead = IsRead IsTree lines_text tree_lines
+abbrev pub IsTreeRead : Limits → Place → Lines → Place → Type 0
+IsTreeRead l = IsRead (IsTree l) lines_text tree_lines

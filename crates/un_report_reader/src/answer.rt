@@ -6,12 +6,15 @@ ghost use Rattle.un_report_reader.specs.Answers.{AreCosts, costs_lines, two, IsA
 ghost use Rattle.un_report_reader.specs.Errors.{IsErrorAt, IsRead};
 ghost use Rattle.un_report_reader.specs.FirstBad.{IsBadLine, InAnswer, InCost};
 ghost use Rattle.un_report_reader.specs.declared.kind.Kind.{Kind};
+ghost use Rattle.un_report_reader.specs.declared.limits.Limits.{Limits};
+ghost use Rattle.un_report_reader.specs.Limits.{AreSmall};
 ghost use Rattle.un_report_reader.specs.Lines.{one, IsAny, kind_text};
 
 use crate::cut::after;
 use crate::error::ReportError;
 use crate::head::number_line;
 use crate::kind::Kind;
+use crate::limits::Limits;
 use crate::listing::listing;
 use crate::numbers::solution;
 use crate::place::{Place, bad_line, behind};
@@ -49,7 +52,7 @@ fn kind_line(at: Place) -> Result<(Kind, Place), ReportError>
 /// The lines of the cost and its bound.
 fn costs(at: Place) -> Result<((u64, u64), Place), ReportError>
     ensures ok { IfOk result (λ p. IsRead AreCosts costs_lines two at.entry p.0 p.1) }
-    ensures bad { IfErr result (IsErrorAt InCost at.entry) }
+    ensures bad { (l : Limits) → IfErr result (IsErrorAt (InCost l) at.entry) }
 {
     let (cost, at) = number_line(at, b"cost ", 0, u64::MAX)?;
     let (bound, at) = number_line(at, b"bound ", 0, u64::MAX)?;
@@ -57,12 +60,17 @@ fn costs(at: Place) -> Result<((u64, u64), Place), ReportError>
 }
 
 /// An answer that is code, behind the line of its kind.
-fn code_answer<'a>(alloc: Global, at: Place<'a>) -> Result<(Answered, Place<'a>), ReportError>
-    ensures ok { IfOk result (λ p. IsCodeRead at.entry p.0 p.1) }
-    ensures bad { IfErr result (IsErrorAt InCost at.entry) }
+fn code_answer<'a>(
+    alloc: Global,
+    at: Place<'a>,
+    limits: Limits,
+) -> Result<(Answered, Place<'a>), ReportError>
+    requires { AreSmall limits }
+    ensures ok { IfOk result (λ p. IsCodeRead limits at.entry p.0 p.1) }
+    ensures bad { IfErr result (IsErrorAt (InCost limits) at.entry) }
 {
     let ((cost, bound), at) = costs(at)?;
-    let (code, at) = listing(alloc, at)?;
+    let (code, at) = listing(alloc, at, limits)?;
     let (solution, at) = solution(alloc, at)?;
     let answer = Answered::Code {
         cost,
@@ -74,13 +82,18 @@ fn code_answer<'a>(alloc: Global, at: Place<'a>) -> Result<(Answered, Place<'a>)
 }
 
 /// The answer.
-pub(crate) fn answer<'a>(alloc: Global, at: Place<'a>) -> Result<(Answered, Place<'a>), ReportError>
-    ensures ok { IfOk result (λ p. IsRead IsAnswer answer_text answer_lines at.entry p.0 p.1) }
-    ensures bad { IfErr result (IsErrorAt InAnswer at.entry) }
+pub(crate) fn answer<'a>(
+    alloc: Global,
+    at: Place<'a>,
+    limits: Limits,
+) -> Result<(Answered, Place<'a>), ReportError>
+    requires { AreSmall limits }
+    ensures ok { IfOk result (λ p. IsRead (IsAnswer limits) answer_text answer_lines at.entry p.0 p.1) }
+    ensures bad { IfErr result (IsErrorAt (InAnswer limits) at.entry) }
 {
     let (kind, at) = kind_line(at)?;
     match kind {
-        Kind::Code => code_answer(alloc, at),
+        Kind::Code => code_answer(alloc, at, limits),
         Kind::Infeasible => Ok((Answered::Infeasible, at)),
         Kind::Spent => Ok((Answered::Spent, at)),
     }

@@ -7,18 +7,19 @@ ghost use Rattle.un_report.specs.Reports.{regs_text, model_text};
 ghost use Rattle.un_report_reader.specs.Errors.{IsErrorAt, IsRead};
 ghost use Rattle.un_report_reader.specs.FirstBad.{IsBadLine, InVersion};
 ghost use Rattle.un_report_reader.specs.Heads.{IsHead, head_of, head_text, three, settings_of};
+ghost use Rattle.un_report_reader.specs.Limits.{AreSmall};
 ghost use Rattle.un_report_reader.specs.Lines.{one, number_text, IsName, function_text, AreSettings, settings_text};
 ghost use Rattle.un_report_reader.specs.Parts.{IsWithin};
 
 use crate::cut::{field, number};
 use crate::error::ReportError;
+use crate::limits::{Limits, limits_of};
 use crate::place::{Place, bad_line, behind};
 use un_base::decimal::read_decimal;
 use un_base::name::Name;
 use un_commands::command::MOST_NODES;
-use un_isa::reg::SLOTS;
+use un_isa::table::LAST;
 use un_model::model::{ASSIGNABLE, Options};
-use un_report::report::VERSION;
 
 /// The options of a model and how many nodes a search was given.
 #[derive(Clone, Copy)]
@@ -27,9 +28,10 @@ pub(crate) struct Settings {
     pub(crate) nodes: u32,
 }
 
-/// What stands before the answer: the name of the function, and the settings.
+/// What stands before the answer: the version, the name of the function, and the settings.
 #[derive(Clone, Copy)]
 pub(crate) struct Head<'a> {
+    pub(crate) version: u8,
     pub(crate) name: &'a [u8],
     pub(crate) settings: Settings,
 }
@@ -88,13 +90,14 @@ fn regs_of(word: &[u8]) -> Option<Option<u32>>
 }
 
 /// The settings with which a text begins, and what is left behind their line.
-fn settings_in(text: &[u8]) -> Option<(Settings, &[u8])>
-    ensures some { IfSome result (λ p. AreSettings (settings_of p.0) × (text.now ≡ settings_text (settings_of p.0) ++ p.1.now)) }
-    ensures none { IfNone result ((s : Options × ℕ) (rest : List ℕ) → AreSettings s → text.now ≢ settings_text s ++ rest) }
+fn settings_in(text: &[u8], limits: Limits) -> Option<(Settings, &[u8])>
+    requires { AreSmall limits }
+    ensures some { IfSome result (λ p. AreSettings limits (settings_of p.0) × (text.now ≡ settings_text (settings_of p.0) ++ p.1.now)) }
+    ensures none { IfNone result ((s : Options × ℕ) (rest : List ℕ) → AreSettings limits s → text.now ≢ settings_text s ++ rest) }
 {
     let (word, rest) = field(text, b"model regs ", b' ')?;
     let regs = regs_of(word)?;
-    let (slots, rest) = number(rest, b"slots ", b' ', 0, SLOTS as u64)?;
+    let (slots, rest) = number(rest, b"slots ", b' ', 0, limits.slots as u64)?;
     let (nodes, rest) = number(rest, b"nodes ", b'\n', 1, MOST_NODES as u64)?;
     let options = Options {
         regs,
@@ -105,11 +108,12 @@ fn settings_in(text: &[u8]) -> Option<(Settings, &[u8])>
 }
 
 /// The line of the settings.
-fn settings_line(at: Place) -> Result<(Settings, Place), ReportError>
-    ensures ok { IfOk result (λ p. IsRead AreSettings settings_text one at.entry (settings_of p.0) p.1) }
-    ensures bad { IfErr result (IsErrorAt (IsBadLine AreSettings settings_text) at.entry) }
+fn settings_line(at: Place, limits: Limits) -> Result<(Settings, Place), ReportError>
+    requires { AreSmall limits }
+    ensures ok { IfOk result (λ p. IsRead (AreSettings limits) settings_text one at.entry (settings_of p.0) p.1) }
+    ensures bad { IfErr result (IsErrorAt (IsBadLine (AreSettings limits) settings_text) at.entry) }
 {
-    match settings_in(at.rest) {
+    match settings_in(at.rest, limits) {
         Some((settings, rest)) => Ok((settings, behind(at, rest, 1)?)),
         None => Err(bad_line(at, 1)),
     }
@@ -120,8 +124,14 @@ pub(crate) fn read_head(at: Place) -> Result<(Head, Place), ReportError>
     ensures ok { IfOk result (λ p. IsRead IsHead head_text three at.entry (head_of p.0) p.1) }
     ensures bad { IfErr result (IsErrorAt InVersion at.entry) }
 {
-    let (_, at) = number_line(at, b"unison ", VERSION, VERSION)?;
+    let (version, at) = number_line(at, b"unison ", 1, LAST as u64)?;
+    let version = version as u8;
     let (name, at) = name_line(at)?;
-    let (settings, at) = settings_line(at)?;
-    Ok((Head { name, settings }, at))
+    let (settings, at) = settings_line(at, limits_of(version))?;
+    let head = Head {
+        version,
+        name,
+        settings,
+    };
+    Ok((head, at))
 }

@@ -6,6 +6,7 @@ mod cut;
 pub mod error;
 mod head;
 pub mod kind;
+pub mod limits;
 mod listing;
 mod numbers;
 mod place;

@@ -9,7 +9,8 @@ ghost use Rattle.un_report_reader.specs.Readings.{IsReport, IsView, IsErrorOf, I
 
 use crate::answer::answer;
 use crate::error::ReportError;
-use crate::head::{Head, read_head};
+use crate::head::read_head;
+use crate::limits::limits_of;
 use crate::place::Place;
 use crate::tree::{Lines, end, tree};
 use std::alloc::Global;
@@ -27,14 +28,16 @@ fn view<'a>(alloc: Global, text: &'a [u8]) -> Result<ReportView<'a>, ReportError
         rest: text,
         lines: 0,
     };
-    let (Head { name, settings }, at) = read_head(at)?;
-    let (answer, at) = answer(alloc, at)?;
-    let (Lines { text: tree, count }, at) = tree(at)?;
+    let (head, at) = read_head(at)?;
+    let limits = limits_of(head.version);
+    let (answer, at) = answer(alloc, at, limits)?;
+    let (Lines { text: tree, count }, at) = tree(at, limits)?;
     end(at)?;
     Ok(ReportView {
-        name,
-        options: settings.options,
-        nodes: settings.nodes,
+        version: head.version,
+        name: head.name,
+        options: head.settings.options,
+        nodes: head.settings.nodes,
         answer,
         tree,
         count,
@@ -65,6 +68,7 @@ fn report_of(alloc: Global, view: ReportView) -> Result<Report, ReportError>
     };
     match read_tree(alloc, view.tree) {
         Ok(tree) => Ok(Report {
+            version: view.version,
             name,
             options: view.options,
             nodes: view.nodes,

@@ -9,8 +9,8 @@ ghost use Rattle.un_report_reader.specs.Trees.{IsNodesRead, IsTreeRead};
 use crate::cut::after;
 use crate::error::ReportError;
 use crate::head::number_line;
+use crate::limits::Limits;
 use crate::place::{Place, bad_line, behind};
-use un_commands::command::MOST_NODES;
 use un_tree::read::{Step, first_node};
 
 /// So many lines of nodes.
@@ -38,11 +38,11 @@ pub(crate) struct Lines<'a> {
 }
 
 /// The lines of the tree, with the line of how many they are.
-pub(crate) fn tree(at: Place) -> Result<(Lines, Place), ReportError>
-    ensures ok { IfOk result (λ p. IsTreeRead at.entry p.0 p.1) }
-    ensures bad { IfErr result (IsErrorAt InTree at.entry) }
+pub(crate) fn tree(at: Place, limits: Limits) -> Result<(Lines, Place), ReportError>
+    ensures ok { IfOk result (λ p. IsTreeRead limits at.entry p.0 p.1) }
+    ensures bad { IfErr result (IsErrorAt (InTree limits) at.entry) }
 {
-    let (count, at) = number_line(at, b"tree ", 1, MOST_NODES as u64)?;
+    let (count, at) = number_line(at, b"tree ", 1, limits.lines as u64)?;
     let count = count as u32;
     let (text, at) = nodes(at, count)?;
     Ok((Lines { text, count }, at))

@@ -28,7 +28,7 @@ use Rattle.un_branching.specs.declared.attempt.Tried.TheVariants.{Found as Good,
 use Rattle.un_search.specs.declared.attempt.Tried.{Tried}
 use Rattle.un_search.specs.declared.attempt.Tried.TheVariants.{Found, Refuted, Cut}
 use Rattle.un_search.specs.Answers.{IsRefuted, IsCutOff, IsAnswerOf, IsByRoot, OnFound, OnRefuted, OnCut}
-use Rattle.un_search.specs.ModelLaws.{posted_empty}
+use Rattle.un_certificate.specs.ModelLaws.{posted_empty, posted_keeps}
 use Rattle.un_levels.specs.Levels.{IsReady, Leveled, Sheet}
 use Rattle.un_engine.specs.Ends.{IsAt, IsEnd}
 use Rattle.un_engine.specs.Engines.{State}
@@ -40,12 +40,11 @@ use Rattle.un_prop.specs.declared.propagator.Scratch.{Scratch}
 use Rattle.un_ir.specs.Extended.{IsExtended}
 use Rattle.un_isa.specs.Fit.{IsFit}
 use Rattle.un_model.specs.Variables.{IsModel}
-use Rattle.un_post.specs.Posts.{IsExact, ReadsFrom, IsGrounded, FailsWhereEmpty}
 use Rattle.un_tree.specs.declared.node.Decision.{Decision}
 use Rattle.un_branching.proofs.EndLemmas.{fails}
 use Rattle.un_branching.specs.declared.problem.Look.TheVariants.{Failed}
-use Rattle.un_search.specs.ModelLaws.{posted_keeps}
-use Rattle.un_search.specs.Stores.{ArePosted, AreStores}
+use Rattle.un_certificate.specs.Posted.{ArePosted}
+use Rattle.un_search.specs.Stores.{AreStores}
 
 -- the boxes that wait are within the first one
 abbrev AllBoxes : Sets → List Waiting → Type 0
@@ -110,18 +109,6 @@ fresh_at root fix ds cuts ends F none fit full box unmarked end fresh = (
     cut = record { sets = box; marked = unmarked };
   }),
 )
-
--- what posting says, said of the first box
-pub posted_of : (m : Model) (limit : Option ℕ) (s : Sets) (ps : List AnyProp) → s ≡ root_of m → IsExact m limit s ps
-    → All (ReadsFrom s) ps → All IsGrounded ps → FailsWhereEmpty m limit s ps
-    → ((box : Sets) → fix_of cut_of ps box ≡ fix_at m limit box) → ArePosted m limit ps
-posted_of m limit s ps is exact reads grounded fails fixed = record {
-  exact = subst (λ (r : Sets). IsExact m limit r ps) is exact;
-  reads = subst (λ (r : Sets). All (ReadsFrom r) ps) is reads;
-  grounded = grounded;
-  fails = subst (λ (r : Sets). FailsWhereEmpty m limit r ps) is fails;
-  fixed = fixed;
-}
 
 -- the tree of a first box on which the rounds fail
 pub closed_root : (m : Model) (limit : Option ℕ) (ps : List AnyProp) (n : ℕ) (t : List Node) → ArePosted m limit ps → NoneEmpty (root_of m)

@@ -35,8 +35,9 @@ use Rattle.un_branching.specs.declared.problem.Look.TheVariants.{Failed, Found, 
 use Rattle.un_tree.specs.Searched.{HasTwo}
 use Rattle.un_certificate.specs.Certificates.{IsBelow}
 use Rattle.un_search.specs.Looks.{IsLookOf}
-use Rattle.un_search.specs.ModelLaws.{posted_inside, posted_single, posted_empty}
-use Rattle.un_search.specs.Stores.{ArePosted, AreStores}
+use Rattle.un_certificate.specs.ModelLaws.{posted_inside, posted_single, posted_empty}
+use Rattle.un_certificate.specs.Posted.{ArePosted}
+use Rattle.un_search.specs.Stores.{AreStores}
 
 -- the first variables have these values alone
 pub record HasValues (s : Sets) (n : ℕ) (x : List ℕ) : Type 0 where

@@ -1,7 +1,6 @@
 -- What the tree of a last attempt says of the best solution.
-use Rattle.std.proofs.Common.{ℕ, ◌≡◌, ◌≢◌, ◌≤◌, ◌+◌, List, [], ◌∷◌, Option, None, Some, All, max, min, inl, inr, refl, sym, subst, arith}
+use Rattle.std.proofs.Common.{ℕ, ◌≡◌, ◌≢◌, ◌+◌, List, [], ◌∷◌, Option, None, Some, All, max, inl, inr, refl, subst, arith}
 use Rattle.std.specs.List.{AllByRecursion, Contains}
-use Rattle.std.proofs.lemmas.Bool.{cases_lt}
 use Rattle.std.proofs.lemmas.List.Elements.{All-contains, recursion_from_All, All-from_recursion}
 use Rattle.un_ir.specs.Extended.{IsExtended}
 use Rattle.un_isa.specs.Fit.{IsFit}
@@ -11,14 +10,12 @@ use Rattle.un_model.specs.Options.{AreOptions}
 use Rattle.un_model.specs.Solutions.{IsSolution}
 use Rattle.un_model.specs.Variables.{IsModel}
 use Rattle.un_bound.proofs.Plains.{plain_below}
-use Rattle.un_bound.specs.Plain.{IsPlainBound}
-use Rattle.un_bound.specs.Relaxations.{IsLeast}
-use Rattle.un_tree.specs.Searched.{HasAtLeast, HasLeast, IsLowest}
 use Rattle.un_tree.specs.Waits.{Waiting, Whole, Visit, after, visits, visits_of}
 use Rattle.un_tree.specs.declared.node.Node.{Node}
-use Rattle.un_tree.specs.declared.node.Node.TheVariants.{Branch, Closed, Open}
+use Rattle.un_tree.specs.declared.node.Node.TheVariants.{Open}
+use Rattle.un_certificate.proofs.Lowest.{bound_one, lowest_none}
 use Rattle.un_certificate.proofs.Lows.{bound_below, refuted, standing}
-use Rattle.un_certificate.specs.Bounds.{IsBound, IsLowestUnder}
+use Rattle.un_certificate.specs.Bounds.{IsBound}
 use Rattle.un_certificate.specs.Certificates.{root_of}
 use Rattle.un_search.specs.Answers.{IsLeftOfRoot, IsRefuted, IsCutOff}
 use Rattle.un_search.specs.Solved.{IsBest, IsByRounds, IsCode, IsEnded, OnCode, OnInfeasible}
@@ -44,74 +41,47 @@ cut_ended m limit n t low h = record { certificate = h.certificate; few = h.many
 
 -- ---- the least of the limit and of the open leaves
 
-module _ (least : Model) (c : ℕ) where
-  at_closed : (n : Node) (w : Waiting) → (n ≡ Open → ⊥) → HasAtLeast (IsLeast least) c n w
-  at_closed (Branch v x) w never = tt
-  at_closed Closed w never = tt
-  at_closed Open (Whole b) never = absurd (never refl)
+closed_at : (i : ℕ) (ns : List Node) (ws : List Waiting) → AllByRecursion (λ (n : Node). n ≡ Open → ⊥) ns
+    → AllByRecursion (λ (p : Visit). p.node ≡ Open → ⊥) (visits i ns ws)
+closed_at i [] ws closed = tt
+closed_at i (n ∷ ns) [] closed = tt
+closed_at i (n ∷ ns) (w ∷ ws) closed = (closed.0, closed_at (i + 1) ns (after n w ws) closed.1)
 
-  closed_above : (i : ℕ) (ns : List Node) (ws : List Waiting) → AllByRecursion (λ (n : Node). n ≡ Open → ⊥) ns
-      → AllByRecursion (λ (p : Visit). HasAtLeast (IsLeast least) c p.node p.waiting) (visits i ns ws)
-  closed_above i [] ws closed = tt
-  closed_above i (n ∷ ns) [] closed = tt
-  closed_above i (n ∷ ns) (w ∷ ws) closed = (at_closed n w closed.0, closed_above (i + 1) ns (after n w ws) closed.1)
-
--- it is the limit where no leaf is open
-pub closed_lowest : (m : Model) (c : ℕ) (t : List Node) → All (λ (n : Node). n ≢ Open) t → IsLowestUnder m c (visits_of (root_of m) t) c
-closed_lowest m c t closed = record {
-  within = omega arith;
-  below = All-from_recursion (λ (p : Visit). HasAtLeast (IsLeast m) c p.node p.waiting) (visits_of (root_of m) t)
-      (closed_above m c 0 t (Whole (root_of m) ∷ []) (recursion_from_All (λ (n : Node). n ≡ Open → ⊥) t closed));
-  reached = inl refl;
-}
-
-at_less : (m : Model) (k low : ℕ) (n : Node) (w : Waiting) → k ≤ low → HasAtLeast (IsLeast m) low n w → HasAtLeast (IsLeast m) k n w
-at_less m k low (Branch v x) w le h = tt
-at_less m k low Closed w le h = tt
-at_less m k low Open (Whole b) le h = λ n least. (let a = h n least in omega (arith, a, le))
-
-all_less : (m : Model) (k low : ℕ) (ps : List Visit) → k ≤ low
-    → All (λ (p : Visit). HasAtLeast (IsLeast m) low p.node p.waiting) ps → All (λ (p : Visit). HasAtLeast (IsLeast m) k p.node p.waiting) ps
-all_less m k low ps le all i d lt = at_less m k low _ _ le (all i d lt)
-
-pub open_lowest : (m : Model) (c low : ℕ) (ps : List Visit) → IsLowest (IsLeast m) ps low → IsLowestUnder m c ps (min c low)
-open_lowest m c low ps h = elim (cases_lt low c) [
-  | inl less ↦ (let e : min c low ≡ low = omega (arith, less) in record {
-    within = omega (arith, less, e);
-    below = all_less m (min c low) low ps (omega (arith, e)) h.below;
-    reached = inr (h.leaf, h.there, subst (λ (k : ℕ). HasLeast (IsLeast m) k h.leaf.node h.leaf.waiting) (sym e) h.has);
-  })
-  | inr ge ↦ (let e : min c low ≡ c = omega (arith, ge) in record {
-    within = omega (arith, e);
-    below = all_less m (min c low) low ps (omega (arith, ge, e)) h.below;
-    reached = inl e;
-  })
-]
+-- no leaf is open where no node is
+pub closed_visits : (m : Model) (t : List Node) → All (λ (n : Node). n ≢ Open) t → All (λ (p : Visit). p.node ≢ Open) (visits_of (root_of m) t)
+closed_visits m t closed = All-from_recursion (λ (p : Visit). p.node ≢ Open) (visits_of (root_of m) t)
+    (closed_at 0 t (Whole (root_of m) ∷ []) (recursion_from_All (λ (n : Node). n ≡ Open → ⊥) t closed))
 
 -- ---- the best solution with a bound
 
 module _ (m : Model) (own : IsModel m) (extended : IsExtended m.ext) (fit : IsFit m.ext.table) (options : AreOptions m.options) (n : ℕ) where
   -- a bound is the cost where no leaf is open
-  bound_equal : (b : Best) (plain low bound : ℕ) → IsBest m n b → IsPlainBound m plain → bound ≡ max plain low → low ≡ b.cost → bound ≡ b.cost
-  bound_equal b plain low bound best is greatest same =
-      let le = plain_below m b.solution plain own extended fit options best.solution is in
+  bound_equal : (b : Best) (t : List Node) (bound : ℕ) → IsBest m n b → IsBound m b.cost (visits_of (root_of m) t) bound
+      → All (λ (k : Node). k ≢ Open) t → bound ≡ b.cost
+  bound_equal b t bound best shown closed =
+      let le = plain_below m b.solution shown.plain own extended fit options best.solution shown.is_plain in
       let e = best.cost in
-      omega (arith, le, e, greatest, same)
+      let top : IsBound m b.cost (visits_of (root_of m) t) (max shown.plain b.cost) = record {
+        plain = shown.plain;
+        low = b.cost;
+        is_plain = shown.is_plain;
+        is_lowest = lowest_none m b.cost (visits_of (root_of m) t) (closed_visits m t closed);
+        greatest = refl;
+      } in
+      let one = bound_one m b.cost (visits_of (root_of m) t) bound (max shown.plain b.cost) shown top in
+      omega (arith, le, e, one)
 
-  pub best_code : (b : Best) (t : List Node) (plain low bound : ℕ) → IsBest m n b → IsEnded m (Some b.cost) n t
-      → IsLowestUnder m b.cost (visits_of (root_of m) t) low → (All (λ (k : Node). k ≢ Open) t → low ≡ b.cost) → IsPlainBound m plain
-      → bound ≡ max plain low → IsCode m n b.solution b.cost bound t
-  best_code b t plain low bound best ended lowest closed is greatest =
-      let shown : IsBound m b.cost (visits_of (root_of m) t) bound = record { plain = plain; low = low; is_plain = is; is_lowest = lowest; greatest = greatest } in
-      record {
-        solution = best.solution;
-        priced = best.cost;
-        tight = best.tight;
-        tree = ended;
-        shown = shown;
-        least = bound_below m b.cost t own extended fit options (standing m (Some b.cost) t ended.certificate) bound shown;
-        equal = λ none. bound_equal b plain low bound best is greatest (closed none);
-      }
+  pub best_code : (b : Best) (t : List Node) (bound : ℕ) → IsBest m n b → IsEnded m (Some b.cost) n t
+      → IsBound m b.cost (visits_of (root_of m) t) bound → IsCode m n b.solution b.cost bound t
+  best_code b t bound best ended shown = record {
+    solution = best.solution;
+    priced = best.cost;
+    tight = best.tight;
+    tree = ended;
+    shown = shown;
+    least = bound_below m b.cost t own extended fit options (standing m (Some b.cost) t ended.certificate) bound shown;
+    equal = bound_equal b t bound best shown;
+  }
 
 -- ---- answers
 

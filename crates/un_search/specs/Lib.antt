@@ -1,5 +1,6 @@
 pub mod Answers
+pub mod Dives
 pub mod Looks
-pub mod ModelLaws
+pub mod Roots
 pub mod Solved
 pub mod Stores

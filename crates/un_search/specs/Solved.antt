@@ -12,6 +12,7 @@ use Rattle.un_certificate.specs.Bounds.{IsBound}
 use Rattle.un_certificate.specs.Certificates.{IsCertificate, root_of}
 use Rattle.un_search.specs.Answers.{IsLeftOfRoot}
 use Rattle.un_search.specs.declared.best.Best.{Best}
+use Rattle.un_search.specs.declared.root.Incumbent.{Incumbent}
 use Rattle.un_search.specs.declared.solve.Answer.{Answer}
 use Rattle.un_search.specs.declared.solve.Answer.TheVariants.{Code, Infeasible, Spent}
 use Rattle.un_search.specs.declared.solve.Last.{Last}
@@ -48,7 +49,7 @@ abbrev pub IsByRounds : Model → Option Solution → Solution → Type 0
 IsByRounds m start s = (start ≡ Some s) ⊎ ((limit : Option ℕ) × IsLeftOfRoot m limit s)
 
 -- what is so of a better solution, and where there is none
-abbrev pub OnBetter : (Best → Type 0) → Step → Type 0
+abbrev pub OnBetter : (Incumbent → Type 0) → Step → Type 0
 OnBetter P (Better b) = P b
 OnBetter P (Ended l) = ⊤
 

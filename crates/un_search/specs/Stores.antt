@@ -1,30 +1,16 @@
--- What posting says of its propagators, and the stores of a search of a model.
-use Rattle.std.specs.Prelude.{ℕ, ◌≡◌, ◌+◌, List, Option, All, length}
+-- The stores of a search of a model.
+use Rattle.std.specs.Prelude.{ℕ, ◌≡◌, ◌+◌, List, Option, length}
 use Rattle.un_domains.specs.Sets.{Sets}
 use Rattle.un_ir.specs.Extended.{IsExtended}
 use Rattle.un_isa.specs.Fit.{IsFit}
 use Rattle.un_model.specs.declared.model.Model.{Model}
 use Rattle.un_model.specs.Variables.{IsModel}
 use Rattle.un_prop.specs.Pruning.{HasRoom}
-use Rattle.un_prop.specs.Rounds.{fix_of}
 use Rattle.un_prop.specs.declared.propagator.Scratch.{Scratch}
-use Rattle.un_kinds.specs.AnyProps.{cut_of}
 use Rattle.un_kinds.specs.declared.any.AnyProp.{AnyProp}
-use Rattle.un_post.specs.Posts.{IsExact, ReadsFrom, IsGrounded, FailsWhereEmpty, fix_at, largest_horizon}
+use Rattle.un_post.specs.Posts.{largest_horizon}
 use Rattle.un_certificate.specs.Certificates.{root_of}
-
--- propagators as they are posted for a model under a limit
-pub record ArePosted (m : Model) (limit : Option ℕ) (ps : List AnyProp) : Type 0 where
-  pub exact : IsExact m limit (root_of m) ps
-  pub reads : All (ReadsFrom (root_of m)) ps
-  pub grounded : All IsGrounded ps
-  pub fails : FailsWhereEmpty m limit (root_of m) ps
-  pub fixed : (box : Sets) → fix_of cut_of ps box ≡ fix_at m limit box
-
--- there are such
-pub record IsPostable (m : Model) (limit : Option ℕ) : Type 0 where
-  pub props : List AnyProp
-  pub are : ArePosted m limit props
+use Rattle.un_certificate.specs.Posted.{ArePosted}
 
 -- the propagators of a model, the sets that they leave and the sets of a box, which have the variables of the model, and room for looks
 pub record AreStores (m : Model) (limit : Option ℕ) (ps : List AnyProp) (ends cuts : Sets) (scratch : Scratch) : Type 0 where

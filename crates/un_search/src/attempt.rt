@@ -1,27 +1,25 @@
 //! An attempt at a solution of a model that costs less than a limit.
 
-ghost use Rattle.std.specs.Prelude.{◌≡◌, ◌<◌, ◌∷◌, [], IfOk, None, Some};
+ghost use Rattle.std.specs.Prelude.{◌≡◌, ◌<◌, ◌∷◌, [], IfOk, IfSome, Some};
 ghost use Rattle.un_ir.specs.Extended.{IsExtended};
 ghost use Rattle.un_isa.specs.Fit.{IsFit};
-ghost use Rattle.un_domains.specs.Sets.{NoneEmpty};
 ghost use Rattle.un_model.specs.Options.{AreOptions};
 ghost use Rattle.un_model.specs.Variables.{IsModel};
-ghost use Rattle.un_post.specs.Posts.{IsCheaper, fix_at};
+ghost use Rattle.un_post.specs.Postable.{IsPostable};
+ghost use Rattle.un_post.specs.Posts.{IsCheaper};
 ghost use Rattle.un_tree.specs.declared.node.Node.TheVariants.{Closed};
-ghost use Rattle.un_certificate.specs.Certificates.{root_of};
-ghost use Rattle.un_search.specs.Stores.{AreStores};
 ghost use Rattle.un_search.specs.Answers.{OnFound, OnRefuted, OnCut, AreEnough, IsRefuted, IsCutOff, IsByRoot, IsAnswerOf};
+ghost use Rattle.un_search.specs.Roots.{AreAtRoot, IsLost, IsPosting, IsRoot};
 
-use crate::rounds::{ModelRounds, ModelStores, first_stores};
+use crate::root::{Posting, Root, begin, root_under};
+use crate::rounds::{ModelRounds, ModelStores};
 use std::alloc::Global;
 use un_base::memory_error::NoMemory;
 use un_branching::attempt::{Tried as Answer, attempt as attempt_by};
 use un_branching::growth::leaf_alone;
-use un_engine::engine::Engine;
-use un_levels::levels::{Dive, Levels};
+use un_levels::levels::{Dive, Levels, to_first};
 use un_lists::items::Items;
 use un_model::model::{Model, Solution};
-use un_post::post::{Posted, post};
 use un_tree::node::{Node, Tree};
 
 /// What an attempt found: a solution that costs less than the limit; a tree without an open leaf, so that there is none; or a tree of
@@ -46,6 +44,13 @@ fn answer_of(tried: Answer) -> Tried
     }
 }
 
+/// What an attempt found, with its stores at the first box again.
+#[derive(Drop)]
+struct Attempted {
+    tried: Tried,
+    stores: ModelStores,
+}
+
 /// Searches from stores at the first box.
 fn search(
     alloc: Global,
@@ -53,26 +58,26 @@ fn search(
     limit: Option<u64>,
     stores: ModelStores,
     nodes: u32,
-) -> Result<Tried, NoMemory>
-    requires stores { AreStores m.now limit stores.engine.props stores.engine.store.sets stores.cuts.sets stores.scratch }
-    requires full { NoneEmpty (root_of m.now) }
-    requires cuts { stores.cuts.sets ≡ root_of m.now }
-    requires unmarked { stores.cuts.marked ≡ [] }
-    requires ends { fix_at m.now limit (root_of m.now) ≡ Some stores.engine.store.sets }
-    requires fresh { stores.engine.store.marked ≡ [] }
+) -> Result<Attempted, NoMemory>
+    requires root { AreAtRoot m.now limit stores }
     requires some { 0 < nodes }
-    ensures found { IfOk result (OnFound (IsCheaper m.now limit)) }
-    ensures refuted { IfOk result (OnRefuted (IsRefuted m.now limit nodes)) }
-    ensures cut { IfOk result (OnCut (IsCutOff m.now limit nodes)) }
-    ensures first { nodes < 3 → IfOk result (IsByRoot m.now limit) }
-    ensures enough { AreEnough m.now nodes → IfOk result (OnCut (λ t low. ⊥)) }
+    ensures found { IfOk result (λ a. OnFound (IsCheaper m.now limit) a.tried) }
+    ensures refuted { IfOk result (λ a. OnRefuted (IsRefuted m.now limit nodes) a.tried) }
+    ensures cut { IfOk result (λ a. OnCut (IsCutOff m.now limit nodes) a.tried) }
+    ensures first { nodes < 3 → IfOk result (λ a. IsByRoot m.now limit a.tried) }
+    ensures enough { AreEnough m.now nodes → IfOk result (λ a. OnCut (λ t low. ⊥) a.tried) }
+    ensures root { IfOk result (λ a. AreAtRoot m.now limit a.stores) }
 {
     let rounds = ModelRounds { alloc, m, limit };
     let dive = Dive { rounds };
     let path = Vec::new(alloc);
     let mut room = Levels { stores, path };
     let tried = attempt_by(alloc, &dive, &mut room, nodes)?;
-    Ok(answer_of(tried))
+    to_first(&dive.rounds, &mut room);
+    Ok(Attempted {
+        tried: answer_of(tried),
+        stores: room.stores,
+    })
 }
 
 /// A tree of one closed leaf.
@@ -81,6 +86,23 @@ fn closed_leaf(alloc: Global) -> Result<Tree, NoMemory>
 {
     let tree = leaf_alone(alloc, Node::Closed)?;
     Ok(tree)
+}
+
+/// The answer where the rounds fail on the first box.
+fn refuted(alloc: Global, m: &Model, limit: Option<u64>, nodes: u32) -> Result<Tried, NoMemory>
+    requires lost { IsLost m.now limit }
+    requires some { 0 < nodes }
+    ensures found { IfOk result (OnFound (IsCheaper m.now limit)) }
+    ensures refuted { IfOk result (OnRefuted (IsRefuted m.now limit nodes)) }
+    ensures cut { IfOk result (OnCut (IsCutOff m.now limit nodes)) }
+    ensures first { IfOk result (IsByRoot m.now limit) }
+    ensures enough { IfOk result (OnCut (λ t low. ⊥)) }
+{
+    let _ = m;
+    let _ = limit;
+    let _ = nodes;
+    let tree = closed_leaf(alloc)?;
+    Ok(Tried::Refuted(tree))
 }
 
 /// Looks for a solution of a model that costs less than a limit, with at most so many nodes. With one or two nodes the answer follows
@@ -100,19 +122,73 @@ pub fn attempt(alloc: Global, m: &Model, limit: Option<u64>, nodes: u32) -> Resu
     ensures first { nodes < 3 → IfOk result (IsByRoot m.now limit) }
     ensures enough { AreEnough m.now nodes → IfOk result (OnCut (λ t low. ⊥)) }
 {
-    let posted = post(alloc, m, limit)?;
-    let cuts = posted.store.copy(alloc)?;
-    let Posted {
-        props,
-        store,
-        horizon,
-        ..
-    } = posted;
-    match Engine::new(alloc, props, store, horizon)? {
-        None => Ok(Tried::Refuted(closed_leaf(alloc)?)),
-        Some(engine) => {
-            let stores = first_stores(alloc, m, engine, cuts, horizon)?;
-            search(alloc, m, limit, stores, nodes)
+    match begin(alloc, m, limit)? {
+        None => refuted(alloc, m, limit, nodes),
+        Some(begun) => {
+            let attempted = search(alloc, m, limit, begun.stores, nodes)?;
+            Ok(attempted.tried)
+        }
+    }
+}
+
+/// What an attempt under a limit found, with the root where there is one.
+#[derive(Drop)]
+pub(crate) struct Under {
+    pub tried: Tried,
+    pub root: Option<Root>,
+}
+
+/// Searches from a root.
+fn search_from(alloc: Global, m: &Model, root: Root, nodes: u32) -> Result<Under, NoMemory>
+    requires root { IsRoot m.now root }
+    requires some { 0 < nodes }
+    ensures found { IfOk result (λ u. OnFound (IsCheaper m.now (Some root.limit)) u.tried) }
+    ensures refuted { IfOk result (λ u. OnRefuted (IsRefuted m.now (Some root.limit) nodes) u.tried) }
+    ensures cut { IfOk result (λ u. OnCut (IsCutOff m.now (Some root.limit) nodes) u.tried) }
+    ensures first { nodes < 3 → IfOk result (λ u. IsByRoot m.now (Some root.limit) u.tried) }
+    ensures root { IfOk result (λ u. IfSome u.root (λ r. IsRoot m.now r × (r.limit ≡ root.limit))) }
+{
+    let Root {
+        stores,
+        limit,
+        limit_at,
+    } = root;
+    let Attempted { tried, stores } = search(alloc, m, Some(limit), stores, nodes)?;
+    Ok(Under {
+        tried,
+        root: Some(Root {
+            stores,
+            limit,
+            limit_at,
+        }),
+    })
+}
+
+/// The same as `attempt` under a limit, by what is posted under it.
+pub(crate) fn attempt_under(
+    alloc: Global,
+    m: &Model,
+    posting: Posting,
+    limit: u64,
+    nodes: u32,
+) -> Result<Under, NoMemory>
+    requires postable { IsPostable m.now }
+    requires posting { IsPosting m.now limit posting }
+    requires some { 0 < nodes }
+    ensures found { IfOk result (λ u. OnFound (IsCheaper m.now (Some limit)) u.tried) }
+    ensures refuted { IfOk result (λ u. OnRefuted (IsRefuted m.now (Some limit) nodes) u.tried) }
+    ensures cut { IfOk result (λ u. OnCut (IsCutOff m.now (Some limit) nodes) u.tried) }
+    ensures first { nodes < 3 → IfOk result (λ u. IsByRoot m.now (Some limit) u.tried) }
+    ensures root { IfOk result (λ u. IfSome u.root (λ r. IsRoot m.now r × (r.limit ≡ limit))) }
+{
+    match root_under(alloc, m, posting, limit)? {
+        None => {
+            let tried = refuted(alloc, m, Some(limit), nodes)?;
+            Ok(Under { tried, root: None })
+        }
+        Some(root) => {
+            let under = search_from(alloc, m, root, nodes)?;
+            Ok(under)
         }
     }
 }

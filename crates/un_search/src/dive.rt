@@ -1,7 +1,9 @@
-//! A dive: an engine that goes down by decisions which do not fail, and back. Nothing is promised of where it comes to.
+//! A dive: an engine that goes down by decisions which do not fail, and back. Nothing is promised of where it comes to but that it comes
+//! back to where it began.
 
-ghost use Rattle.std.specs.Prelude.{◌≡◌, ◌<◌, length};
+ghost use Rattle.std.specs.Prelude.{◌≡◌, ◌<◌, [], OnOk, length};
 ghost use Rattle.un_domains.specs.Sets.{NoneEmpty};
+ghost use Rattle.un_search.specs.Dives.{base_of};
 
 use std::marker::Model;
 use un_base::ids::VarId;
@@ -12,7 +14,8 @@ use un_kinds::any::AnyProp;
 use un_prop::run::Fix;
 use un_prop::side::Side;
 
-/// An engine in which no set is empty, and how many decisions may still be made. Contracts see the engine.
+/// An engine in which no set is empty, and how many decisions may still be made. Contracts see its propagators, and the sets from which
+/// it went down.
 #[derive(Drop)]
 pub(crate) struct Dive {
     engine: Engine<AnyProp>,
@@ -24,6 +27,7 @@ fn go(engine: &mut Engine<AnyProp>, v: VarId, x: u32, side: Side) -> Result<bool
     requires there { v.0 < length engine.old.store.sets }
     requires live { NoneEmpty engine.old.store.sets }
     ensures live { NoneEmpty engine.new.store.sets }
+    ensures base { OnOk result (base_of engine.new ≡ base_of engine.old) }
 {
     engine.facts();
     match engine.decide(v, x, side)? {
@@ -33,6 +37,19 @@ fn go(engine: &mut Engine<AnyProp>, v: VarId, x: u32, side: Side) -> Result<bool
             Ok(false)
         }
     }
+}
+
+/// An engine that has gone back to its first mark.
+fn up(engine: Engine<AnyProp>) -> Engine<AnyProp>
+    ensures props { result.props ≡ engine.props }
+    ensures sets { result.store.sets ≡ (base_of engine).sets }
+    ensures fresh { result.store.marked ≡ [] }
+{
+    let mut engine = engine;
+    while engine.store().marks() > 0 {
+        engine.undo();
+    }
+    engine
 }
 
 /// The least value of a variable; 0 where there is none of this number.
@@ -51,12 +68,11 @@ fn greatest_of(store: &Store, v: VarId) -> u32
 
 impl Model for Dive {
     ghost use Rattle.un_domains.specs.Sets.{NoneEmpty};
-    ghost use Rattle.un_engine.specs.Engines.{State};
-    ghost use Rattle.un_kinds.specs.declared.any.AnyProp.{AnyProp};
+    ghost use Rattle.un_search.specs.Dives.{Base, base_of};
 
-    ghost Value = { State AnyProp };
+    ghost Value = { Base };
 
-    ghost view = { λ d. d.engine };
+    ghost view = { λ d. base_of d.engine };
 
     ghost invariant = { λ d. NoneEmpty d.engine.store.sets };
 }
@@ -65,8 +81,18 @@ impl Dive {
     /// A dive from where an engine is, with so many decisions.
     pub(crate) fn new(engine: Engine<AnyProp>, left: u32) -> Dive
         requires { NoneEmpty engine.store.sets }
+        ensures { result ≡ base_of engine }
     {
         Dive { engine, left }
+    }
+
+    /// The engine, where the dive began.
+    pub(crate) fn into_engine(self) -> Engine<AnyProp>
+        ensures props { result.props ≡ self.props }
+        ensures sets { result.store.sets ≡ self.sets }
+        ensures fresh { result.store.marked ≡ [] }
+    {
+        up(self.engine)
     }
 
     /// How many decisions may still be made.
@@ -75,7 +101,6 @@ impl Dive {
     }
 
     fn store(&self) -> &Store
-        ensures is { result.now ≡ self.now.store }
         ensures live { NoneEmpty result.now.sets }
     {
         self.engine.store()
@@ -110,8 +135,10 @@ impl Dive {
     }
 
     /// Goes to one side of a variable. Whether the rounds held; where they failed, or no decision was left, the dive is where it was.
-    pub(crate) fn decide(&mut self, v: VarId, x: u32, side: Side) -> Result<bool, NoMemory> {
-        if self.left == 0 || v.0 >= self.store().len() {
+    pub(crate) fn decide(&mut self, v: VarId, x: u32, side: Side) -> Result<bool, NoMemory>
+        ensures { OnOk result (self.new ≡ self.old) }
+    {
+        if self.left == 0 || v.0 >= self.engine.store().len() {
             return Ok(false);
         }
         self.left -= 1;
@@ -120,14 +147,18 @@ impl Dive {
     }
 
     /// Goes back by one decision, where there is one.
-    pub(crate) fn back(&mut self) {
-        if self.store().marks() > 0 {
+    pub(crate) fn back(&mut self)
+        ensures { self.new ≡ self.old }
+    {
+        if self.engine.store().marks() > 0 {
             self.engine.undo();
         }
     }
 
     /// Goes back to where the dive began.
-    pub(crate) fn rise(&mut self) {
+    pub(crate) fn rise(&mut self)
+        ensures { self.new ≡ self.old }
+    {
         for _ in 0..self.store().marks() {
             self.back();
         }

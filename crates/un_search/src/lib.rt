@@ -9,6 +9,7 @@ mod dive;
 mod lifts;
 mod near;
 pub mod order;
+mod root;
 pub mod rounds;
 pub mod solve;
 pub mod start;

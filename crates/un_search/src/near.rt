@@ -1,25 +1,25 @@
 //! Solutions near one: in a window of a block's cycles another schedule is looked for that is one cycle shorter, and all else of the block
 //! stays where the rounds let it. What is found was judged, so nothing else is promised of it.
 
-ghost use Rattle.std.specs.Prelude.{◌≡◌, ◌≤◌, ◌⊎◌, IfOk, IfSome};
-ghost use Rattle.un_ir.specs.Extended.{IsExtended};
-ghost use Rattle.un_isa.specs.Fit.{IsFit};
-ghost use Rattle.un_model.specs.Options.{AreOptions};
+ghost use Rattle.std.specs.Prelude.{◌≡◌, ◌≤◌, ◌⊎◌, [], IfOk, IfSome, OnOk};
+ghost use Rattle.un_domains.specs.Sets.{NoneEmpty};
 ghost use Rattle.un_model.specs.Solutions.{IsSolution};
 ghost use Rattle.un_model.specs.Variables.{IsModel};
+ghost use Rattle.un_post.specs.Postable.{IsPostable};
+ghost use Rattle.un_search.specs.Roots.{IsIncumbent, IsRoot};
 ghost use Rattle.un_search.specs.Solved.{IsBest};
 
 use crate::best::{Best, best_of};
 use crate::dive::Dive;
-use crate::order::{BlockOrder, order_of};
+use crate::order::BlockOrder;
+use crate::root::{Incumbent, Posting, Root, lowered};
+use crate::rounds::ModelStores;
 use crate::window::{Hint, Site, Window};
 use std::alloc::{AllocError, Global};
 use un_base::ids::VarId;
 use un_base::memory_error::NoMemory;
-use un_engine::engine::Engine;
 use un_first::first::judged;
 use un_model::model::{Model, Solution};
-use un_post::post::{Posted, post};
 use un_prop::side::Side;
 
 /// How many cycles the windows have.
@@ -50,7 +50,9 @@ fn push(path: &mut Vec<Turn>, turn: Turn) -> Result<(), AllocError> {
 }
 
 /// Gives a variable a value, where the rounds let it.
-fn follow(dive: &mut Dive, hint: Hint) -> Result<(), NoMemory> {
+fn follow(dive: &mut Dive, hint: Hint) -> Result<(), NoMemory>
+    ensures { OnOk result (dive.new ≡ dive.old) }
+{
     let Hint { var, val } = hint;
     if !dive.is_open(var) || !dive.has(var, val) {
         return Ok(());
@@ -97,7 +99,9 @@ fn next_open(dive: &Dive, block: &BlockOrder) -> Option<VarId> {
 }
 
 /// Turns the last decision that can be turned.
-fn retreat(dive: &mut Dive, path: &mut Vec<Turn>) -> Result<Progress, NoMemory> {
+fn retreat(dive: &mut Dive, path: &mut Vec<Turn>) -> Result<Progress, NoMemory>
+    ensures { OnOk result (dive.new ≡ dive.old) }
+{
     for _ in 0..path.len() {
         let Some(turn) = path.pop() else {
             break;
@@ -117,11 +121,9 @@ fn retreat(dive: &mut Dive, path: &mut Vec<Turn>) -> Result<Progress, NoMemory> 
 }
 
 /// Decides one variable more, at its least value or above it.
-fn advance(
-    dive: &mut Dive,
-    block: &BlockOrder,
-    path: &mut Vec<Turn>,
-) -> Result<Progress, NoMemory> {
+fn advance(dive: &mut Dive, block: &BlockOrder, path: &mut Vec<Turn>) -> Result<Progress, NoMemory>
+    ensures { OnOk result (dive.new ≡ dive.old) }
+{
     let Some(var) = next_open(dive, block) else {
         return Ok(Progress::Done);
     };
@@ -152,7 +154,9 @@ fn advance(
 }
 
 /// Searches the variables of a block depth first. Whether each of them has one value then.
-fn settle(alloc: Global, dive: &mut Dive, block: &BlockOrder) -> Result<bool, NoMemory> {
+fn settle(alloc: Global, dive: &mut Dive, block: &BlockOrder) -> Result<bool, NoMemory>
+    ensures { OnOk result (dive.new ≡ dive.old) }
+{
     let mut path = Vec::new(alloc);
     let mut failures = 0u32;
     for _ in 0..dive.left() {
@@ -193,7 +197,9 @@ fn in_window(
     site: Site<'_>,
     block: &BlockOrder,
     window: Window,
-) -> Result<Option<Vec<u32>>, NoMemory> {
+) -> Result<Option<Vec<u32>>, NoMemory>
+    ensures { OnOk result (dive.new ≡ dive.old) }
+{
     let shorter = site.value(block.end).saturating_sub(1);
     if !dive.decide(block.end, shorter, Side::AtMost)? {
         return Ok(None);
@@ -220,7 +226,8 @@ fn in_block(
     width: u32,
 ) -> Result<Option<Solution>, NoMemory>
     requires model { IsModel m.now }
-    ensures { IfOk result (λ found. IfSome found (λ s. IsSolution m.now s)) }
+    ensures found { IfOk result (λ found. IfSome found (λ s. IsSolution m.now s)) }
+    ensures same { OnOk result (dive.new ≡ dive.old) }
 {
     let step = (width / 2).max(1);
     for k in 0..site.value(block.end).div_ceil(step) {
@@ -250,7 +257,8 @@ fn in_blocks(
     width: u32,
 ) -> Result<Option<Solution>, NoMemory>
     requires model { IsModel m.now }
-    ensures { IfOk result (λ found. IfSome found (λ s. IsSolution m.now s)) }
+    ensures found { IfOk result (λ found. IfSome found (λ s. IsSolution m.now s)) }
+    ensures same { OnOk result (dive.new ≡ dive.old) }
 {
     for block in order {
         if let Some(vars) = m.blocks.as_slice().get(block.place) {
@@ -275,13 +283,14 @@ fn in_windows(
     m: &Model,
     solution: &Solution,
     dive: &mut Dive,
+    order: &[BlockOrder],
 ) -> Result<Option<Solution>, NoMemory>
     requires model { IsModel m.now }
-    ensures { IfOk result (λ found. IfSome found (λ s. IsSolution m.now s)) }
+    ensures found { IfOk result (λ found. IfSome found (λ s. IsSolution m.now s)) }
+    ensures same { OnOk result (dive.new ≡ dive.old) }
 {
-    let order = order_of(alloc, m)?;
     for width in WIDTHS {
-        let found = in_blocks(alloc, m, solution, dive, order.as_slice(), width)?;
+        let found = in_blocks(alloc, m, solution, dive, order, width)?;
         if found.is_some() {
             return Ok(found);
         }
@@ -289,41 +298,48 @@ fn in_windows(
     Ok(None)
 }
 
-/// A solution near one, where one was found, and how many decisions are left.
+/// A solution near one, where one was found, how many decisions are left, and the stores, which are where they were.
 #[derive(Drop)]
 struct Found {
     solution: Option<Solution>,
     left: u32,
+    stores: ModelStores,
 }
 
 /// Looks once for a solution near one that costs less.
-fn near(alloc: Global, m: &Model, best: &Best, left: u32) -> Result<Found, NoMemory>
+fn near(
+    alloc: Global,
+    m: &Model,
+    solution: &Solution,
+    stores: ModelStores,
+    left: u32,
+) -> Result<Found, NoMemory>
     requires model { IsModel m.now }
-    requires extended { IsExtended m.now.ext }
-    requires fit { IsFit m.now.ext.table }
-    requires options { AreOptions m.now.options }
-    ensures { IfOk result (λ found. IfSome found.solution (λ s. IsSolution m.now s)) }
+    requires live { NoneEmpty stores.engine.store.sets }
+    requires fresh { stores.engine.store.marked ≡ [] }
+    ensures found { IfOk result (λ found. IfSome found.solution (λ s. IsSolution m.now s)) }
+    ensures same { IfOk result (λ found. found.stores ≡ stores) }
 {
-    let Posted {
-        props,
-        store,
-        horizon,
-        ..
-    } = post(alloc, m, Some(best.cost))?;
-    match Engine::new(alloc, props, store, horizon)? {
-        None => Ok(Found {
-            solution: None,
-            left,
-        }),
-        Some(engine) => {
-            let mut dive = Dive::new(engine, left);
-            let solution = in_windows(alloc, m, &best.solution, &mut dive)?;
-            Ok(Found {
-                solution,
-                left: dive.left(),
-            })
-        }
-    }
+    let ModelStores {
+        engine,
+        cuts,
+        scratch,
+        order,
+    } = stores;
+    let mut dive = Dive::new(engine, left);
+    let solution = in_windows(alloc, m, solution, &mut dive, order.as_slice())?;
+    let left = dive.left();
+    let engine = dive.into_engine();
+    Ok(Found {
+        solution,
+        left,
+        stores: ModelStores {
+            engine,
+            cuts,
+            scratch,
+            order,
+        },
+    })
 }
 
 /// The one that costs less, the first one on a tie.
@@ -334,6 +350,112 @@ fn cheaper(one: Best, other: Best) -> Best
     if other.cost < one.cost { other } else { one }
 }
 
+/// The one that costs less, the first one on a tie, with what is posted under its cost.
+fn next(
+    alloc: Global,
+    m: &Model,
+    one: Best,
+    other: Best,
+    root: Root,
+    nodes: u32,
+) -> Result<Incumbent, NoMemory>
+    requires one { IsBest m.now nodes one }
+    requires other { IsBest m.now nodes other }
+    requires root { IsRoot m.now root }
+    requires under { root.limit ≡ one.cost }
+    ensures incumbent { IfOk result (IsIncumbent m.now nodes) }
+    ensures no_dearer { IfOk result (λ i. i.best.cost ≤ one.cost) }
+{
+    let _ = nodes;
+    let best = cheaper(one, other);
+    let posting = lowered(alloc, m, Some(root), best.cost)?;
+    Ok(Incumbent { best, posting })
+}
+
+/// The best solution after a look near it, how many decisions are left, and whether to look again.
+#[derive(Drop)]
+struct Seen {
+    now: Incumbent,
+    left: u32,
+    goes_on: bool,
+}
+
+/// Looks once near the best solution.
+fn look(
+    alloc: Global,
+    m: &Model,
+    incumbent: Incumbent,
+    nodes: u32,
+    left: u32,
+) -> Result<Seen, NoMemory>
+    requires postable { IsPostable m.now }
+    requires incumbent { IsIncumbent m.now nodes incumbent }
+    ensures incumbent { IfOk result (λ seen. IsIncumbent m.now nodes seen.now) }
+    ensures no_dearer { IfOk result (λ seen. seen.now.best.cost ≤ incumbent.best.cost) }
+{
+    let Incumbent { best, posting } = incumbent;
+    match posting {
+        Posting::Begun(Some(root)) => look_from(alloc, m, best, root, nodes, left),
+        posting => Ok(Seen {
+            now: Incumbent { best, posting },
+            left,
+            goes_on: false,
+        }),
+    }
+}
+
+/// Looks once near the best solution, from the root under its cost.
+fn look_from(
+    alloc: Global,
+    m: &Model,
+    best: Best,
+    root: Root,
+    nodes: u32,
+    left: u32,
+) -> Result<Seen, NoMemory>
+    requires postable { IsPostable m.now }
+    requires best { IsBest m.now nodes best }
+    requires root { IsRoot m.now root }
+    requires under { root.limit ≡ best.cost }
+    ensures incumbent { IfOk result (λ seen. IsIncumbent m.now nodes seen.now) }
+    ensures no_dearer { IfOk result (λ seen. seen.now.best.cost ≤ best.cost) }
+{
+    let Root {
+        stores,
+        limit,
+        limit_at,
+    } = root;
+    let Found {
+        solution,
+        left,
+        stores,
+    } = near(alloc, m, &best.solution, stores, left)?;
+    let root = Root {
+        stores,
+        limit,
+        limit_at,
+    };
+    match solution {
+        None => Ok(Seen {
+            now: Incumbent {
+                best,
+                posting: Posting::Begun(Some(root)),
+            },
+            left,
+            goes_on: false,
+        }),
+        Some(solution) => {
+            let other = best_of(alloc, m, solution, nodes)?;
+            let now = next(alloc, m, best, other, root, nodes)?;
+            Ok(Seen {
+                now,
+                left,
+                goes_on: true,
+            })
+        }
+    }
+}
+
 /// The best solution that is found near one by at most `decisions` decisions of an engine: it costs no more.
 ///
 /// # Errors
@@ -341,29 +463,23 @@ fn cheaper(one: Best, other: Best) -> Best
 pub(crate) fn best_near(
     alloc: Global,
     m: &Model,
-    best: Best,
+    first: Incumbent,
     nodes: u32,
     decisions: u32,
-) -> Result<Best, NoMemory>
-    requires model { IsModel m.now }
-    requires extended { IsExtended m.now.ext }
-    requires fit { IsFit m.now.ext.table }
-    requires options { AreOptions m.now.options }
-    requires best { IsBest m.now nodes best }
-    ensures best { IfOk result (IsBest m.now nodes) }
-    ensures no_dearer { IfOk result (λ b. b.cost ≤ best.cost) }
+) -> Result<Incumbent, NoMemory>
+    requires postable { IsPostable m.now }
+    requires first { IsIncumbent m.now nodes first }
+    ensures incumbent { IfOk result (IsIncumbent m.now nodes) }
+    ensures no_dearer { IfOk result (λ i. i.best.cost ≤ first.best.cost) }
 {
-    let mut now = best;
+    let mut now = first;
     let mut left = decisions;
     for _ in 0..decisions {
-        let found = near(alloc, m, &now, left)?;
-        left = found.left;
-        match found.solution {
-            None => return Ok(now),
-            Some(solution) => {
-                let other = best_of(alloc, m, solution, nodes)?;
-                now = cheaper(now, other);
-            }
+        let seen = look(alloc, m, now, nodes, left)?;
+        now = seen.now;
+        left = seen.left;
+        if !seen.goes_on {
+            return Ok(now);
         }
     }
     Ok(now)

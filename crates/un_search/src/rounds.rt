@@ -11,7 +11,7 @@ ghost use Rattle.un_bound.specs.Relaxations.{IsRelaxation};
 ghost use Rattle.un_post.specs.Posts.{largest_horizon};
 ghost use Rattle.un_certificate.specs.Certificates.{root_of};
 ghost use Rattle.un_search.specs.Looks.{IsLookOf};
-ghost use Rattle.un_search.specs.Stores.{IsPostable};
+ghost use Rattle.un_certificate.specs.Posted.{IsPosted};
 
 use crate::choices::{choice_of, first_open, single_values};
 use crate::lifts::first_lift;
@@ -52,7 +52,7 @@ pub struct ModelRounds<'a> {
     pub m: &'a Model,
     /// What a solution is to cost less than; None where each solution will do.
     pub limit: Option<u64>,
-    pub ghost posted: { ∥ IsPostable m.now limit ∥₁ },
+    pub ghost posted: { ∥ IsPosted m.now limit ∥₁ },
 }
 
 /// Stores with room for looks and the order of a model, whose cycles go from 0 to `horizon`.
@@ -132,7 +132,7 @@ impl Rounds for ModelRounds<'_> {
     ghost use Rattle.un_post.specs.Posts.{fix_at};
     ghost use Rattle.un_certificate.specs.Certificates.{IsBelow};
     ghost use Rattle.un_search.specs.Stores.{AreStores};
-    ghost use Rattle.un_search.specs.ModelLaws.{model_inside, model_keeps, model_parts, model_rises};
+    ghost use Rattle.un_certificate.specs.ModelLaws.{model_inside, model_keeps, model_parts, model_rises};
 
     type Stores = ModelStores;
 

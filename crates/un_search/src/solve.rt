@@ -9,21 +9,24 @@ ghost use Rattle.un_model.specs.Solutions.{IsSolution};
 ghost use Rattle.un_model.specs.Variables.{IsModel};
 ghost use Rattle.un_model.specs.declared.model.Solution.{Solution};
 ghost use Rattle.un_bound.specs.Arcs.{IsShort};
-ghost use Rattle.un_certificate.specs.Bounds.{IsBound, IsLowestUnder};
+ghost use Rattle.un_certificate.specs.Bounds.{IsBound, IsLeastOpen};
 ghost use Rattle.un_certificate.specs.Certificates.{root_of};
+ghost use Rattle.un_post.specs.Postable.{IsPostable};
 ghost use Rattle.un_merges.specs.Merges.{HasNoMerge};
 ghost use Rattle.un_tree.specs.Waits.{visits_of};
 ghost use Rattle.un_tree.specs.declared.node.Node.TheVariants.{Open};
 ghost use Rattle.un_search.specs.Answers.{AreEnough, IsLeftOfRoot, IsRefuted};
+ghost use Rattle.un_search.specs.Roots.{IsIncumbent};
 ghost use Rattle.un_search.specs.Solved.{IsBest, IsByRounds, IsCode, IsLast, IsEnded, OnBetter, OnEnded, OnCode, OnInfeasible, OnSpent, OnOther};
 ghost use Rattle.un_search.specs.Solved.{HasNoOpenLeaf};
 
-use crate::attempt::{Tried, attempt};
+use crate::attempt::{Tried, Under, attempt, attempt_under};
 use crate::best::{Best, best_of};
-use crate::start::incumbent;
+use crate::root::{Incumbent, lowered};
+use crate::start::{incumbent, unposted};
 use std::alloc::Global;
 use un_base::memory_error::NoMemory;
-use un_bound::plain::plain_bound;
+use un_certificate::bound::bound_of;
 use un_model::model::{Model, Solution};
 use un_tree::node::Tree;
 
@@ -54,74 +57,69 @@ struct Last {
 /// What an attempt under the cost of the best solution came to.
 #[derive(Drop)]
 enum Step {
-    Better(Best),
+    Better(Incumbent),
     Ended(Last),
 }
 
-/// The bound of a tree in which no solution costs less than `low`.
-fn with_bound(m: &Model, best: Best, tree: Tree, low: u64, nodes: u32) -> Last
-    requires model { IsModel m.now }
-    requires extended { IsExtended m.now.ext }
-    requires fit { IsFit m.now.ext.table }
-    requires options { AreOptions m.now.options }
+/// The best solution with its tree, and the bound that the tree shows: `least` is the least of the least costs in the boxes of its open
+/// leaves, where there are some.
+fn with_bound(m: &Model, best: Best, tree: Tree, least: Option<u64>, nodes: u32) -> Last
+    requires postable { IsPostable m.now }
     requires short { All IsShort m.now.ext.blocks }
     requires best { IsBest m.now nodes best }
     requires ended { IsEnded m.now (Some best.cost) nodes tree.nodes.items }
-    requires lowest { IsLowestUnder m.now best.cost (visits_of (root_of m.now) tree.nodes.items) low }
-    requires closed { All (λ n. n ≢ Open) tree.nodes.items → low ≡ best.cost }
+    requires lowest { IsLeastOpen m.now (visits_of (root_of m.now) tree.nodes.items) least }
     ensures last { IsLast m.now nodes result }
     ensures same { result.best ≡ best }
 {
-    let bound = plain_bound(m).max(low);
+    let bound = bound_of(m, best.cost, least);
     Last { best, bound, tree }
 }
 
 /// An attempt at a solution that costs less than the best one.
-fn try_better(alloc: Global, m: &Model, best: Best, nodes: u32) -> Result<Step, NoMemory>
-    requires model { IsModel m.now }
-    requires extended { IsExtended m.now.ext }
-    requires fit { IsFit m.now.ext.table }
-    requires options { AreOptions m.now.options }
+fn try_better(alloc: Global, m: &Model, now: Incumbent, nodes: u32) -> Result<Step, NoMemory>
+    requires postable { IsPostable m.now }
     requires short { All IsShort m.now.ext.blocks }
     requires some { 0 < nodes }
-    requires best { IsBest m.now nodes best }
-    ensures better { IfOk result (OnBetter (IsBest m.now nodes)) }
-    ensures falls { IfOk result (OnBetter (λ b. b.cost < best.cost)) }
+    requires now { IsIncumbent m.now nodes now }
+    ensures better { IfOk result (OnBetter (IsIncumbent m.now nodes)) }
+    ensures falls { IfOk result (OnBetter (λ i. i.best.cost < now.best.cost)) }
     ensures last { IfOk result (OnEnded (IsLast m.now nodes)) }
-    ensures same { IfOk result (OnEnded (λ l. l.best ≡ best)) }
-    ensures few { nodes < 3 → IfOk result (OnBetter (λ b. IsLeftOfRoot m.now (Some best.cost) b.solution)) }
+    ensures same { IfOk result (OnEnded (λ l. l.best ≡ now.best)) }
+    ensures few { nodes < 3 → IfOk result (OnBetter (λ i. IsLeftOfRoot m.now (Some now.best.cost) i.best.solution)) }
 {
-    let limit = best.cost;
-    match attempt(alloc, m, Some(limit), nodes)? {
+    let Incumbent { best, posting } = now;
+    let Under { tried, root } = attempt_under(alloc, m, posting, best.cost, nodes)?;
+    match tried {
         Tried::Found(solution) => {
             let next = best_of(alloc, m, solution, nodes)?;
-            Ok(Step::Better(next))
+            let posting = lowered(alloc, m, root, next.cost)?;
+            Ok(Step::Better(Incumbent {
+                best: next,
+                posting,
+            }))
         }
-        Tried::Refuted(tree) => Ok(Step::Ended(with_bound(m, best, tree, limit, nodes))),
+        Tried::Refuted(tree) => Ok(Step::Ended(with_bound(m, best, tree, None, nodes))),
         Tried::Cut { tree, least } => {
-            let low = limit.min(least);
-            Ok(Step::Ended(with_bound(m, best, tree, low, nodes)))
+            Ok(Step::Ended(with_bound(m, best, tree, Some(least), nodes)))
         }
     }
 }
 
 /// Attempts from a solution on, each under the cost of the best one so far, until there is none that costs less or the nodes are used.
-fn improved(alloc: Global, m: &Model, start: Best, nodes: u32) -> Result<Last, NoMemory>
-    requires model { IsModel m.now }
-    requires extended { IsExtended m.now.ext }
-    requires fit { IsFit m.now.ext.table }
-    requires options { AreOptions m.now.options }
+fn improved(alloc: Global, m: &Model, start: Incumbent, nodes: u32) -> Result<Last, NoMemory>
+    requires postable { IsPostable m.now }
     requires short { All IsShort m.now.ext.blocks }
     requires some { 0 < nodes }
-    requires start { IsBest m.now nodes start }
+    requires start { IsIncumbent m.now nodes start }
     ensures last { IfOk result (IsLast m.now nodes) }
-    ensures no_dearer { IfOk result (λ l. l.best.cost ≤ start.cost) }
-    ensures few { nodes < 3 → IfOk result (λ l. IsByRounds m.now (Some start.solution) l.best.solution) }
+    ensures no_dearer { IfOk result (λ l. l.best.cost ≤ start.best.cost) }
+    ensures few { nodes < 3 → IfOk result (λ l. IsByRounds m.now (Some start.best.solution) l.best.solution) }
 {
-    let mut best = start;
+    let mut now = start;
     loop {
-        match try_better(alloc, m, best, nodes)? {
-            Step::Better(next) => best = next,
+        match try_better(alloc, m, now, nodes)? {
+            Step::Better(next) => now = next,
             Step::Ended(last) => return Ok(last),
         }
     }
@@ -142,18 +140,15 @@ fn code_of(last: Last) -> Answer
 }
 
 /// The answer from a solution on.
-fn from_best(alloc: Global, m: &Model, best: Best, nodes: u32) -> Result<Answer, NoMemory>
-    requires model { IsModel m.now }
-    requires extended { IsExtended m.now.ext }
-    requires fit { IsFit m.now.ext.table }
-    requires options { AreOptions m.now.options }
+fn from_best(alloc: Global, m: &Model, best: Incumbent, nodes: u32) -> Result<Answer, NoMemory>
+    requires postable { IsPostable m.now }
     requires short { All IsShort m.now.ext.blocks }
     requires some { 0 < nodes }
-    requires best { IsBest m.now nodes best }
+    requires best { IsIncumbent m.now nodes best }
     ensures code { IfOk result (OnCode (IsCode m.now nodes)) }
-    ensures no_dearer { IfOk result (OnCode (λ s cost bound t. cost ≤ best.cost)) }
+    ensures no_dearer { IfOk result (OnCode (λ s cost bound t. cost ≤ best.best.cost)) }
     ensures found { IfOk result (OnOther ⊥) }
-    ensures few { nodes < 3 → IfOk result (OnCode (λ s cost bound t. IsByRounds m.now (Some best.solution) s)) }
+    ensures few { nodes < 3 → IfOk result (OnCode (λ s cost bound t. IsByRounds m.now (Some best.best.solution) s)) }
 {
     let last = improved(alloc, m, best, nodes)?;
     Ok(code_of(last))
@@ -161,10 +156,7 @@ fn from_best(alloc: Global, m: &Model, best: Best, nodes: u32) -> Result<Answer,
 
 /// The answer where no solution is known yet: the first attempt has no limit.
 fn from_none(alloc: Global, m: &Model, nodes: u32) -> Result<Answer, NoMemory>
-    requires model { IsModel m.now }
-    requires extended { IsExtended m.now.ext }
-    requires fit { IsFit m.now.ext.table }
-    requires options { AreOptions m.now.options }
+    requires postable { IsPostable m.now }
     requires short { All IsShort m.now.ext.blocks }
     requires some { 0 < nodes }
     ensures code { IfOk result (OnCode (IsCode m.now nodes)) }
@@ -174,7 +166,7 @@ fn from_none(alloc: Global, m: &Model, nodes: u32) -> Result<Answer, NoMemory>
 {
     match attempt(alloc, m, None, nodes)? {
         Tried::Found(solution) => {
-            let best = best_of(alloc, m, solution, nodes)?;
+            let best = unposted(alloc, m, solution, nodes)?;
             let answer = from_best(alloc, m, best, nodes)?;
             Ok(answer)
         }

@@ -1,6 +1,6 @@
 //! The solution from which a search starts.
 
-ghost use Rattle.std.specs.Prelude.{◌≡◌, ◌<◌, ◌≤◌, IfOk, IfSome, IsSomeAnd};
+ghost use Rattle.std.specs.Prelude.{◌≡◌, ◌<◌, ◌≤◌, ◌-◌, ◌^◌, IfOk, IfSome, IsSomeAnd};
 ghost use Rattle.std.specs.Option.{option_map};
 ghost use Rattle.un_ir.specs.Extended.{IsExtended};
 ghost use Rattle.un_isa.specs.Fit.{IsFit};
@@ -9,12 +9,14 @@ ghost use Rattle.un_model.specs.Cost.{cost_of};
 ghost use Rattle.un_model.specs.Options.{AreOptions};
 ghost use Rattle.un_model.specs.Solutions.{IsSolution};
 ghost use Rattle.un_model.specs.Variables.{IsModel};
-ghost use Rattle.un_search.specs.Solved.{IsBest};
-ghost use Rattle.un_search.specs.declared.best.Best.{Best};
+ghost use Rattle.un_post.specs.Postable.{IsPostable};
+ghost use Rattle.un_search.specs.Roots.{IsIncumbent, IsRoot};
+ghost use Rattle.un_search.specs.declared.root.Incumbent.{Incumbent};
 
-use crate::best::{BRANCH_NODES, Best, best_of, price};
+use crate::best::{BRANCH_NODES, best_of, price};
 use crate::lifts::lift_of;
 use crate::near::best_near;
+use crate::root::{Incumbent, Posting, Root, first_root, lowered};
 use std::alloc::{AllocError, Global};
 use un_base::ids::VarId;
 use un_base::memory_error::NoMemory;
@@ -23,15 +25,17 @@ use un_engine::engine::Engine;
 use un_first::first::first;
 use un_kinds::any::AnyProp;
 use un_model::model::{BlockVars, Model, Solution};
-use un_post::post::{Posted, post};
 
-/// How often blocks may be tried for the first solution, where there are few nodes.
+/// How often a function's block may be tried for the first solution, where there are few nodes.
 pub const TRIALS: u32 = 1_000;
 
-/// How often they may be tried for each node, where that is more.
+/// How often it may be tried for each node, where that is more.
 const TRIALS_OF_NODE: u32 = 8;
 
-/// How often they may be tried at most.
+/// Each further block adds this part of them: one in so many.
+const FURTHER_BLOCKS: u32 = 4;
+
+/// How often blocks may be tried at most.
 const MOST_TRIALS: u32 = 64_000;
 
 /// From so many nodes on better solutions are looked for near the first one.
@@ -40,10 +44,12 @@ const NEAR_NODES: u32 = 100;
 /// For so many nodes there is one decision near the first solution, which costs more time than a node.
 const NODES_OF_DECISION: u32 = 4;
 
-/// How often blocks may be tried for the first solution of a search with so many nodes.
-fn trials(nodes: u32) -> u32 {
-    let wanted = nodes.saturating_mul(TRIALS_OF_NODE);
-    wanted.max(TRIALS).min(MOST_TRIALS)
+/// How often blocks may be tried for the first solution of a function of so many blocks, by a search with so many nodes.
+fn trials(nodes: u32, blocks: u32) -> u32 {
+    let first = nodes.saturating_mul(TRIALS_OF_NODE).max(TRIALS);
+    let share = first / FURTHER_BLOCKS;
+    let further = share.saturating_mul(blocks.saturating_sub(1));
+    first.saturating_add(further).min(MOST_TRIALS)
 }
 
 /// The least end that a store leaves, or the least of all where it has no such variable.
@@ -81,6 +87,7 @@ fn ends_in(
     blocks: &[BlockVars],
 ) -> Result<Vec<u32>, NoMemory>
     requires live { NoneEmpty engine.old.store.sets }
+    ensures same { IfOk result (λ ends. engine.new ≡ engine.old) }
 {
     let mut ends = Vec::new(alloc);
     for vars in blocks {
@@ -101,16 +108,10 @@ pub fn least_ends(alloc: Global, m: &Model) -> Result<Option<Vec<u32>>, NoMemory
     requires fit { IsFit m.now.ext.table }
     requires options { AreOptions m.now.options }
 {
-    let Posted {
-        props,
-        store,
-        horizon,
-        ..
-    } = post(alloc, m, None)?;
-    match Engine::new(alloc, props, store, horizon)? {
+    match first_root(alloc, m, u64::MAX)? {
         None => Ok(None),
-        Some(mut engine) => {
-            let ends = ends_in(alloc, &mut engine, m.blocks.as_slice())?;
+        Some(mut root) => {
+            let ends = ends_in(alloc, &mut root.stores.engine, m.blocks.as_slice())?;
             Ok(Some(ends))
         }
     }
@@ -134,26 +135,24 @@ fn cost_of_ends(m: &Model, ends: &[u32]) -> u64 {
 }
 
 /// A solution that was made without a search of boxes, where one was found.
-fn made(alloc: Global, m: &Model, nodes: u32) -> Result<Outlook, NoMemory>
-    requires model { IsModel m.now }
-    requires extended { IsExtended m.now.ext }
-    requires fit { IsFit m.now.ext.table }
-    requires options { AreOptions m.now.options }
-    ensures { IfOk result (λ made. IfSome made.solution (λ s. IsSolution m.now s)) }
+fn made(
+    alloc: Global,
+    m: &Model,
+    engine: &mut Engine<AnyProp>,
+    nodes: u32,
+) -> Result<Outlook, NoMemory>
+    requires postable { IsPostable m.now }
+    requires live { NoneEmpty engine.old.store.sets }
+    ensures solution { IfOk result (λ made. IfSome made.solution (λ s. IsSolution m.now s)) }
+    ensures same { IfOk result (λ made. engine.new ≡ engine.old) }
 {
-    match least_ends(alloc, m)? {
-        None => Ok(Outlook {
-            solution: None,
-            least: 0,
-        }),
-        Some(ends) => {
-            let solution = first(alloc, m, ends.as_slice(), trials(nodes))?;
-            Ok(Outlook {
-                solution,
-                least: cost_of_ends(m, ends.as_slice()),
-            })
-        }
-    }
+    let ends = ends_in(alloc, engine, m.blocks.as_slice())?;
+    let blocks = u32::try_from(m.blocks.len()).unwrap_or(u32::MAX);
+    let solution = first(alloc, m, ends.as_slice(), trials(nodes, blocks))?;
+    Ok(Outlook {
+        solution,
+        least: cost_of_ends(m, ends.as_slice()),
+    })
 }
 
 /// The solution that costs less, the first one on a tie.
@@ -194,29 +193,22 @@ fn cheapest(m: &Model, start: Option<Solution>, other: Option<Solution>) -> Opti
     }
 }
 
-/// The start, or a solution that was made, where there are nodes for a branch and it costs less.
+/// The start, or a solution that was made where it costs less.
 fn candidate(
     alloc: Global,
     m: &Model,
+    engine: &mut Engine<AnyProp>,
     start: Option<Solution>,
     nodes: u32,
 ) -> Result<Outlook, NoMemory>
-    requires model { IsModel m.now }
-    requires extended { IsExtended m.now.ext }
-    requires fit { IsFit m.now.ext.table }
-    requires options { AreOptions m.now.options }
+    requires postable { IsPostable m.now }
+    requires live { NoneEmpty engine.old.store.sets }
     requires start { IfSome start (λ s. IsSolution m.now s) }
     ensures solution { IfOk result (λ found. IfSome found.solution (λ s. IsSolution m.now s)) }
     ensures no_dearer { IfOk result (λ found. IfSome start (λ x. IsSomeAnd found.solution (λ s. cost_of m.now s ≤ cost_of m.now x))) }
-    ensures few { nodes < 3 → IfOk result (λ found. found.solution ≡ start) }
+    ensures same { IfOk result (λ found. engine.new ≡ engine.old) }
 {
-    if nodes < BRANCH_NODES {
-        return Ok(Outlook {
-            solution: start,
-            least: 0,
-        });
-    }
-    let made = made(alloc, m, nodes)?;
+    let made = made(alloc, m, engine, nodes)?;
     Ok(Outlook {
         solution: cheapest(m, start, made.solution),
         least: made.least,
@@ -224,45 +216,133 @@ fn candidate(
 }
 
 /// The best solution that is found near one, where there are nodes for it and it costs more than the least.
-fn improved(alloc: Global, m: &Model, best: Best, least: u64, nodes: u32) -> Result<Best, NoMemory>
-    requires model { IsModel m.now }
-    requires extended { IsExtended m.now.ext }
-    requires fit { IsFit m.now.ext.table }
-    requires options { AreOptions m.now.options }
-    requires best { IsBest m.now nodes best }
-    ensures best { IfOk result (IsBest m.now nodes) }
-    ensures no_dearer { IfOk result (λ b. b.cost ≤ best.cost) }
-    ensures few { nodes < 3 → IfOk result (λ b. b ≡ best) }
+fn improved(
+    alloc: Global,
+    m: &Model,
+    first: Incumbent,
+    least: u64,
+    nodes: u32,
+) -> Result<Incumbent, NoMemory>
+    requires postable { IsPostable m.now }
+    requires first { IsIncumbent m.now nodes first }
+    ensures incumbent { IfOk result (IsIncumbent m.now nodes) }
+    ensures no_dearer { IfOk result (λ i. i.best.cost ≤ first.best.cost) }
 {
-    if nodes < NEAR_NODES || best.cost <= least {
-        return Ok(best);
+    if nodes < NEAR_NODES || first.best.cost <= least {
+        return Ok(first);
     }
-    best_near(alloc, m, best, nodes, nodes / NODES_OF_DECISION)
+    best_near(alloc, m, first, nodes, nodes / NODES_OF_DECISION)
 }
 
-/// The best solution before the first attempt, where there is one: the start itself, where there are no nodes for a branch.
+/// A solution as the best one, with nothing posted.
+pub(crate) fn unposted(
+    alloc: Global,
+    m: &Model,
+    solution: Solution,
+    nodes: u32,
+) -> Result<Incumbent, NoMemory>
+    requires postable { IsPostable m.now }
+    requires solution { IsSolution m.now solution }
+    ensures incumbent { IfOk result (IsIncumbent m.now nodes) }
+    ensures no_dearer { IfOk result (λ i. i.best.cost ≤ cost_of m.now solution) }
+    ensures few { nodes < 3 → IfOk result (λ i. i.best.solution ≡ solution) }
+{
+    let best = best_of(alloc, m, solution, nodes)?;
+    Ok(Incumbent {
+        best,
+        posting: Posting::Nothing,
+    })
+}
+
+/// The start, where there is one.
+fn started(
+    alloc: Global,
+    m: &Model,
+    start: Option<Solution>,
+    nodes: u32,
+) -> Result<Option<Incumbent>, NoMemory>
+    requires postable { IsPostable m.now }
+    requires start { IfSome start (λ s. IsSolution m.now s) }
+    ensures incumbent { IfOk result (λ found. IfSome found (IsIncumbent m.now nodes)) }
+    ensures no_dearer { IfOk result (λ found. IfSome start (λ x. IsSomeAnd found (λ i. i.best.cost ≤ cost_of m.now x))) }
+    ensures few { nodes < 3 → IfOk result (λ found. option_map (λ (i : Incumbent). i.best.solution) found ≡ start) }
+{
+    match start {
+        None => Ok(None),
+        Some(solution) => {
+            let incumbent = unposted(alloc, m, solution, nodes)?;
+            Ok(Some(incumbent))
+        }
+    }
+}
+
+/// The best solution before the first attempt, with what is posted under its cost, from a root on.
+fn from_solution(
+    alloc: Global,
+    m: &Model,
+    root: Root,
+    outlook: Outlook,
+    nodes: u32,
+) -> Result<Option<Incumbent>, NoMemory>
+    requires postable { IsPostable m.now }
+    requires root { IsRoot m.now root }
+    requires top { root.limit ≡ 2 ^ 64 - 1 }
+    requires solution { IfSome outlook.solution (λ s. IsSolution m.now s) }
+    ensures incumbent { IfOk result (λ found. IfSome found (IsIncumbent m.now nodes)) }
+    ensures no_dearer { IfOk result (λ found. IfSome outlook.solution (λ x. IsSomeAnd found (λ i. i.best.cost ≤ cost_of m.now x))) }
+{
+    let Outlook { solution, least } = outlook;
+    match solution {
+        None => Ok(None),
+        Some(solution) => {
+            let best = best_of(alloc, m, solution, nodes)?;
+            let posting = lowered(alloc, m, Some(root), best.cost)?;
+            let near = improved(alloc, m, Incumbent { best, posting }, least, nodes)?;
+            Ok(Some(near))
+        }
+    }
+}
+
+/// The best solution before the first attempt, where there is one, from a root on.
+fn from_root(
+    alloc: Global,
+    m: &Model,
+    root: Root,
+    start: Option<Solution>,
+    nodes: u32,
+) -> Result<Option<Incumbent>, NoMemory>
+    requires postable { IsPostable m.now }
+    requires root { IsRoot m.now root }
+    requires top { root.limit ≡ 2 ^ 64 - 1 }
+    requires start { IfSome start (λ s. IsSolution m.now s) }
+    ensures incumbent { IfOk result (λ found. IfSome found (IsIncumbent m.now nodes)) }
+    ensures no_dearer { IfOk result (λ found. IfSome start (λ x. IsSomeAnd found (λ i. i.best.cost ≤ cost_of m.now x))) }
+{
+    let mut root = root;
+    let outlook = candidate(alloc, m, &mut root.stores.engine, start, nodes)?;
+    let found = from_solution(alloc, m, root, outlook, nodes)?;
+    Ok(found)
+}
+
+/// The best solution before the first attempt, where there is one, with what is posted under its cost. With fewer nodes than a branch
+/// takes it is the start.
 pub(crate) fn incumbent(
     alloc: Global,
     m: &Model,
     start: Option<Solution>,
     nodes: u32,
-) -> Result<Option<Best>, NoMemory>
-    requires model { IsModel m.now }
-    requires extended { IsExtended m.now.ext }
-    requires fit { IsFit m.now.ext.table }
-    requires options { AreOptions m.now.options }
+) -> Result<Option<Incumbent>, NoMemory>
+    requires postable { IsPostable m.now }
     requires start { IfSome start (λ s. IsSolution m.now s) }
-    ensures best { IfOk result (λ found. IfSome found (IsBest m.now nodes)) }
-    ensures no_dearer { IfOk result (λ found. IfSome start (λ x. IsSomeAnd found (λ b. b.cost ≤ cost_of m.now x))) }
-    ensures few { nodes < 3 → IfOk result (λ found. option_map (λ (b : Best). b.solution) found ≡ start) }
+    ensures incumbent { IfOk result (λ found. IfSome found (IsIncumbent m.now nodes)) }
+    ensures no_dearer { IfOk result (λ found. IfSome start (λ x. IsSomeAnd found (λ i. i.best.cost ≤ cost_of m.now x))) }
+    ensures few { nodes < 3 → IfOk result (λ found. option_map (λ (i : Incumbent). i.best.solution) found ≡ start) }
 {
-    let Outlook { solution, least } = candidate(alloc, m, start, nodes)?;
-    match solution {
-        None => Ok(None),
-        Some(solution) => {
-            let best = best_of(alloc, m, solution, nodes)?;
-            let near = improved(alloc, m, best, least, nodes)?;
-            Ok(Some(near))
-        }
+    if nodes < BRANCH_NODES {
+        return started(alloc, m, start, nodes);
+    }
+    match first_root(alloc, m, u64::MAX)? {
+        None => started(alloc, m, start, nodes),
+        Some(root) => from_root(alloc, m, root, start, nodes),
     }
 }

@@ -75,7 +75,7 @@ fn range_of(option: &[u8]) -> &'static str {
     match option {
         b"--nodes" => "1 to 200000, and 2000 without the option",
         b"--regs" => "1 to 29; all registers without the option",
-        b"--slots" => "0 to 64, and 64 without the option",
+        b"--slots" => "0 to 256, and 256 without the option",
         _ => "a number",
     }
 }

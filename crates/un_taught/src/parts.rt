@@ -98,7 +98,7 @@ static REPORT: [Form; 16] = [
         head: "unison",
         count: 2,
         numbers: false,
-        text: "`unison 1`",
+        text: "`unison V`, V from 1 to 2",
     },
     Form {
         head: "function",

@@ -2,8 +2,9 @@
 use Rattle.std.proofs.Common.{ℕ, ◌≡◌, List, length, refl, sym, ap, subst, ◌∙◌}
 use Rattle.std.specs.declared.result.Result.{Result}
 use Rattle.std.specs.declared.result.Result.TheVariants.{Ok, Err}
-use Rattle.un_isa.specs.Hexagon.{HEXAGON}
+use Rattle.un_isa.specs.Versions.{table_of}
 use Rattle.un_isa.specs.declared.table.Table.{Table}
+use Rattle.un_isa.specs.declared.table.TheConstants.{LAST}
 use Rattle.un_ir.specs.declared.function.Function.{Function}
 use Rattle.un_check.specs.Causes.{Claim, IsTold, claim_of}
 use Rattle.un_model.specs.declared.model.Options.{Options}
@@ -30,6 +31,7 @@ use Rattle.un_tree.specs.declared.node.Node.{Node}
 
 abbrev view_of : Report → ReportView
 view_of r = record {
+  version = r.version;
   name = record { ref_ptr = (0, 0); now = r.name };
   options = r.options;
   nodes = r.nodes;
@@ -39,10 +41,11 @@ view_of r = record {
 }
 
 is_view_of : (r : Report) → IsViewOf r (view_of r)
-is_view_of r = record { name = refl; options = refl; nodes = refl; answer = refl; tree = refl; count = refl }
+is_view_of r = record { version = refl; name = refl; options = refl; nodes = refl; answer = refl; tree = refl; count = refl }
 
 is_view : (r : Report) → IsReport r → IsView (view_of r)
 is_view r h = record {
+  version = h.version;
   name = h.name;
   options = h.options;
   nodes = h.nodes;
@@ -78,7 +81,7 @@ told_done t f r none (Err cause) h =
     absurd (none cause (record { model = h.model; is_model = h.is_model; cause = h.by_model }))
 
 module _ (input : List ℕ) (o : Options) (nodes : ℕ) (status : Status)
-    (h : IsReportOf HEXAGON o nodes (first_part input) status (second_part input)) where
+    (h : IsReportOf (table_of LAST) o nodes (first_part input) status (second_part input)) where
   pub check_input : IsCheckInput input
   check_input = record {
     function = h.function;
@@ -87,8 +90,8 @@ module _ (input : List ℕ) (o : Options) (nodes : ℕ) (status : Status)
     reported = record { is_report = h.found.is_report; spelled = h.found.printed };
   }
 
-  none : HasNoCause HEXAGON h.function h.found.report
-  none = subst (λ (t : Table). HasNoCause t h.function h.found.report) (table_is HEXAGON h.function h.model.ext h.is_model.ext)
+  none : HasNoCause (table_of LAST) h.function h.found.report
+  none = subst (λ (t : Table). HasNoCause t h.function h.found.report) (table_is (table_of LAST) h.function h.model.ext h.is_model.ext)
       h.found.is_search.accepted
 
   pub accepted : (told : Status) (line : List ℕ) → IsCheck input told line → told ≡ Done
@@ -98,10 +101,13 @@ module _ (input : List ℕ) (o : Options) (nodes : ℕ) (status : Status)
       let same_function : k.function ≡ h.function =
       one_function (shapes_in (first_part input)) k.function h.function k.read.is h.read.is in
       let same = one_report (second_part input) r own.report (record { is_report = h.found.is_report; spelled = h.found.printed }) own.reported in
-      let by_function : IsTold HEXAGON h.function own.report.options (claim_of own.report) k.check.told =
-      subst (λ (f : Function). IsTold HEXAGON f own.report.options (claim_of own.report) k.check.told) same_function own.told in
-      let by_options : IsTold HEXAGON h.function r.options (claim_of own.report) k.check.told =
-      subst (λ (p : Options). IsTold HEXAGON h.function p (claim_of own.report) k.check.told) same.options by_function in
-      let by_claim : IsTold HEXAGON h.function r.options (claim_of r) k.check.told =
-      subst (λ (c : Claim). IsTold HEXAGON h.function r.options c k.check.told) (same_claim r own.report same) by_options in
-      k.check.ends ∙ told_done HEXAGON h.function r none k.check.told by_claim
+      let by_version : IsTold (table_of LAST) k.function own.report.options (claim_of own.report) k.check.told =
+      subst (λ (v : ℕ). IsTold (table_of v) k.function own.report.options (claim_of own.report) k.check.told)
+      (same.version ∙ h.found.is_search.versioned) own.told in
+      let by_function : IsTold (table_of LAST) h.function own.report.options (claim_of own.report) k.check.told =
+      subst (λ (f : Function). IsTold (table_of LAST) f own.report.options (claim_of own.report) k.check.told) same_function by_version in
+      let by_options : IsTold (table_of LAST) h.function r.options (claim_of own.report) k.check.told =
+      subst (λ (p : Options). IsTold (table_of LAST) h.function p (claim_of own.report) k.check.told) same.options by_function in
+      let by_claim : IsTold (table_of LAST) h.function r.options (claim_of r) k.check.told =
+      subst (λ (c : Claim). IsTold (table_of LAST) h.function r.options c k.check.told) (same_claim r own.report same) by_options in
+      k.check.ends ∙ told_done (table_of LAST) h.function r none k.check.told by_claim

@@ -5,8 +5,8 @@ use Rattle.std.specs.declared.alloc.Global.{Global}
 use Rattle.std.specs.declared.result.Result.{Result}
 use Rattle.std.specs.declared.result.Result.TheVariants.{Ok, Err}
 use Rattle.un_base.specs.declared.memory_error.NoMemory.{NoMemory}
-use Rattle.un_isa.specs.Hexagon.{HEXAGON}
 use Rattle.un_isa.proofs.HexagonTable.{hexagon_fit}
+use Rattle.un_isa.specs.Versions.{table_of}
 use Rattle.un_ir.specs.declared.function.Function.{Function}
 use Rattle.un_model.specs.Options.{AreOptions}
 use Rattle.un_model.specs.declared.model.Model.{Model}
@@ -17,6 +17,7 @@ use Rattle.un_report.specs.Views.{IsViewOf}
 use Rattle.un_report.specs.declared.report.Report.{Report}
 use Rattle.un_report.specs.declared.view.ReportView.{ReportView}
 use Rattle.un_report_reader.specs.Readings.{IsView, IsViewRead}
+use Rattle.un_report_reader.proofs.LimitLaws.{limits_small, options_of}
 use Rattle.un_report_reader.proofs.ViewLaws.{report_made, report_read}
 use Rattle.un_runs.specs.Inputs.{first_part, second_part}
 use Rattle.un_runs.specs.Refusals.{RefusesFunction, IsFaultOf}
@@ -38,6 +39,7 @@ use Rattle.un_top.specs.Checks.{IsAnswered, IsCheckOf, IsCheck, RefusesReport, R
 -- the report that a view is of
 abbrev report_of : (g : Global) (v : ReportView) → IsView v → Report
 report_of g v h = record {
+  version = v.version;
   name = v.name.now;
   options = v.options;
   nodes = v.nodes;
@@ -50,7 +52,8 @@ report_of g v h = record {
       alloc = g;
       items = h.tree.nodes;
       ok = (refl, omega arith);
-      small = (let few = h.count.1 in let long = h.tree.are.0 in omega (arith, few, long));
+      small =
+          (let few = h.count.1 in let most = (limits_small v.version).lines in let long = h.tree.are.0 in omega (arith, few, most, long));
     };
   };
 }
@@ -61,47 +64,53 @@ view_lines text v h = let lines = h.is_view.tree in
     record { nodes = lines.nodes; fit = lines.are.1; spelled = lines.spelled; counted = sym lines.are.0 }
 
 -- a sound answer is one for each model of the function, which are one
-sound_by : (f : Function) (r : Report) (m : Model) → IsSound HEXAGON f r → IsModelOf HEXAGON f r.options m
-    → IsSoundAnswer m r.tree.nodes.items r.answer
+sound_by : (f : Function) (r : Report) (m : Model) → IsSound (table_of r.version) f r
+    → IsModelOf (table_of r.version) f r.options m → IsSoundAnswer m r.tree.nodes.items r.answer
 sound_by f r m h is =
-    subst (λ (n : Model). IsSoundAnswer n r.tree.nodes.items r.answer) (model_one HEXAGON f r.options h.model m h.is_model is) h.sound.answer
+    subst (λ (n : Model). IsSoundAnswer n r.tree.nodes.items r.answer)
+    (model_one (table_of r.version) f r.options h.model m h.is_model is) h.sound.answer
 
-problem_by : (f : Function) (r : Report) (m : Model) → AreOptions r.options → IsModelOf HEXAGON f r.options m → IsProblemOf f m
-problem_by f r m options is = problem HEXAGON f r.options m hexagon_fit options is
+problem_by : (f : Function) (r : Report) (m : Model) → AreOptions r.options → IsModelOf (table_of r.version) f r.options m
+    → IsProblemOf f m
+problem_by f r m options is = problem (table_of r.version) f r.options m hexagon_fit options is
 
 -- so its code does what the function does, for its cost
-code_by : (f : Function) (r : Report) (told : Result (Unit {0}) NoCause) → AreOptions r.options → OnOk told (IsSound HEXAGON f r)
-    → OnOk told ((m : Model) → IsModelOf HEXAGON f r.options m → HasCodeFor f m r.answer)
+code_by : (f : Function) (r : Report) (told : Result (Unit {0}) NoCause) → AreOptions r.options
+    → OnOk told (IsSound (table_of r.version) f r)
+    → OnOk told ((m : Model) → IsModelOf (table_of r.version) f r.options m → HasCodeFor f m r.answer)
 code_by f r (Err cause) options sound = tt
 code_by f r (Ok all) options sound = λ m is.
     sound_codes f m r.tree.nodes.items r.answer (problem_by f r m options is) (sound_by f r m sound is)
 
 -- and no solution costs less than its bound
-bounds_by : (f : Function) (r : Report) (told : Result (Unit {0}) NoCause) → AreOptions r.options → OnOk told (IsSound HEXAGON f r)
-    → OnOk told ((m : Model) → IsModelOf HEXAGON f r.options m → BoundsAll m r.answer)
+bounds_by : (f : Function) (r : Report) (told : Result (Unit {0}) NoCause) → AreOptions r.options
+    → OnOk told (IsSound (table_of r.version) f r)
+    → OnOk told ((m : Model) → IsModelOf (table_of r.version) f r.options m → BoundsAll m r.answer)
 bounds_by f r (Err cause) options sound = tt
 bounds_by f r (Ok all) options sound = λ m is.
     sound_bounds f m r.tree.nodes.items r.answer (problem_by f r m options is) (sound_by f r m sound is)
 
 pub answered : (g : Global) (f : Function) (text : List ℕ) (v : ReportView) (result : Result (Result (Unit {0}) NoCause) NoMemory)
     → IsViewRead text v
-    → ((nodes : List Node) → All Fits nodes → v.tree.now ≡ tree_text nodes → IfOk result (IsTold HEXAGON f v.options (claim_with v nodes)))
-    → ((r : Report) → IsViewOf r v → All Fits r.tree.nodes.items → IfOk result (λ told. OnOk told (IsSound HEXAGON f r)))
+    → ((nodes : List Node) → All Fits nodes → v.tree.now ≡ tree_text nodes
+    → IfOk result (IsTold (table_of v.version) f v.options (claim_with v nodes)))
+    → ((r : Report) → IsViewOf r v → All Fits r.tree.nodes.items → IfOk result (λ told. OnOk told (IsSound (table_of v.version) f r)))
     → IfOk result (IsAnswered f text v.answer)
 answered g f text v (Err e) h told sound = tt
 answered g f text v (Ok answer) h told sound =
     let r : Report = report_of g v h.is_view in
-    let made = report_made v r h.is_view refl refl refl refl refl in
+    let made = report_made v r h.is_view refl refl refl refl refl refl in
     let lines = h.is_view.tree in
     let is_sound = sound r made.1 lines.are.1 in
+    let options = options_of v.version v.options h.is_view.options in
     record {
       report = r;
       reported = report_read text v r h made.0 made.1;
       answer = refl;
       told = told lines.nodes lines.are.1 lines.spelled;
       sound = is_sound;
-      code = code_by f r answer h.is_view.options is_sound;
-      bounds = bounds_by f r answer h.is_view.options is_sound;
+      code = code_by f r answer options is_sound;
+      bounds = bounds_by f r answer options is_sound;
     }
 
 -- ---- parts of an input

@@ -2,7 +2,8 @@
 use Rattle.std.proofs.Common.{ℕ, ◌≡◌, ◌≤◌, List, refl, subst, sym, ap, ◌∙◌}
 use Rattle.un_outside.specs.declared.status.Status.{Status}
 use Rattle.un_outside.specs.declared.status.Status.TheVariants.{Done}
-use Rattle.un_isa.specs.Hexagon.{HEXAGON}
+use Rattle.un_isa.specs.Versions.{table_of}
+use Rattle.un_isa.specs.declared.table.TheConstants.{LAST}
 use Rattle.un_isa.specs.declared.table.Table.{Table}
 use Rattle.un_ir.specs.ExtendOf.{extend_of}
 use Rattle.un_ir.specs.LinearOf.{lin_of}
@@ -29,14 +30,14 @@ code_there f m live nodes t Infeasible roomy good = absurd (good.0 roomy)
 code_there f m live nodes t Spent roomy good = absurd (good roomy)
 
 pub generated_is : (table : Table) (o : Options) (f : Function) (m : Model) (seed size nodes : ℕ) (status : Status) (out : List ℕ)
-    → table ≡ HEXAGON → o ≡ default_options → IsGenerated seed size f → IsModelOf table f o m
+    → table ≡ table_of LAST → o ≡ default_options → IsGenerated seed size f → IsModelOf table f o m
     → ((e : IsExtOf m.ext.table f m.ext) → IsSummedUp seed size nodes f m e.live status out)
     → IsGeneratedReport seed size nodes status out
 generated_is table o f m seed size nodes status out same chosen made g found =
-    let h : IsModelOf HEXAGON f default_options m =
+    let h : IsModelOf (table_of LAST) f default_options m =
     subst (λ (u : Table). IsModelOf u f default_options m) same (subst (λ (p : Options). IsModelOf table f p m) chosen g) in
     let extended : m.ext ≡ extend_of (lin_of f h.ext.live m.ext.table) =
-    subst (λ (u : Table). m.ext ≡ extend_of (lin_of f h.ext.live u)) (sym (table_is HEXAGON f m.ext h.ext)) h.ext.is_extended in
+    subst (λ (u : Table). m.ext ≡ extend_of (lin_of f h.ext.live u)) (sym (table_is (table_of LAST) f m.ext h.ext)) h.ext.is_extended in
     let summed = found (record { live = h.ext.live; are_live = h.ext.are_live; is_extended = extended }) in
     let options : m.options ≡ default_options = ap (λ (x : Model). x.options) h.is_model in
     record {

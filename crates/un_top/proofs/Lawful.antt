@@ -10,7 +10,8 @@ use Rattle.un_commands.specs.declared.command.ReadingCommand.TheVariants.{Alloc,
 use Rattle.un_commands.specs.declared.command.SearchOptions.{SearchOptions}
 use Rattle.un_faults.specs.declared.fault.Fault.TheVariants.{TooMany}
 use Rattle.un_ir.specs.declared.function.Function.{Function}
-use Rattle.un_isa.specs.Hexagon.{HEXAGON}
+use Rattle.un_isa.specs.Versions.{table_of}
+use Rattle.un_isa.specs.declared.table.TheConstants.{LAST}
 use Rattle.un_model.specs.declared.model.Model.{Model}
 use Rattle.un_model.specs.declared.model.Options.{Options}
 use Rattle.un_outside.specs.declared.status.NoCause.{NoCause}
@@ -98,7 +99,8 @@ ends_searched status (inr (inl e)) = subst IsSearched (sym e) tt
 ends_searched status (inr (inr e)) = subst IsSearched (sym e) tt
 
 -- where each name can be kept in a frame slot of its own there is code
-roomy_done : (o : Options) (nodes : ℕ) (text : List ℕ) (status : Status) (out : List ℕ) → IsReportOf HEXAGON o nodes text status out
+roomy_done : (o : Options) (nodes : ℕ) (text : List ℕ) (status : Status) (out : List ℕ)
+    → IsReportOf (table_of LAST) o nodes text status out
     → ((f : Function) → IsRead text f → AreRoomyFor f o) → IsDone status
 roomy_done o nodes text status out h roomy =
     let f = h.function in

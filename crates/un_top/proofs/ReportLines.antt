@@ -2,21 +2,25 @@
 use Rattle.std.proofs.Common.{◌≡◌, ℕ, ◌+◌, ◌-◌, ◌/◌, ◌<◌, ◌≤◌, ◌^◌, ◌⊎◌, inl, inr, List, [], ◌∷◌, ◌++◌, codes, length, refl, sym, ap, ◌∙◌, subst, arith}
 use Rattle.std.proofs.lemmas.Bool.{cases_lt}
 use Rattle.std.proofs.lemmas.List.Elements.{recursion_from_All}
-use Rattle.un_commands.specs.Settings.{IsCountOfNodes}
+use Rattle.un_isa.specs.Versions.{IsVersion}
+use Rattle.un_isa.specs.declared.table.TheConstants.{LAST}
 use Rattle.un_listing.specs.Listing.{code_text}
-use Rattle.un_listing_reader.proofs.CodeBack.{one_bad}
+use Rattle.un_listing_reader.proofs.CodeBack.{one_bad_within}
 use Rattle.un_report.specs.declared.report.TheConstants.{NUMBERS}
 use Rattle.un_report.specs.declared.report.Report.{Report}
 use Rattle.un_report.specs.Reports.{numbers_from, numbers_text}
 use Rattle.un_report_reader.specs.FirstBad.{IsBadBehind, InLine, BehindKind, InVersion, InFunction, InModel, InAnswer, InCost, InBound}
 use Rattle.un_report_reader.specs.FirstBad.{InListing, InCode, InSolution, InNumbers, InTree, InNodes, InEnd, InNothing, IsFirstBad}
 use Rattle.un_report_reader.specs.FirstBad.{IsBadCode, IsBadNumber, IsBadNode, first_lines, numbers_lines, lines_in_code}
-use Rattle.un_report_reader.specs.Lines.{one, IsVersion, version_text, IsName, function_text, AreSettings, settings_text, IsAny, kind_text}
+use Rattle.un_report_reader.specs.Limits.{AreSmall, AreFewLines, limits_of}
+use Rattle.un_report_reader.specs.Lines.{one, version_text, IsName, function_text, AreSettings, settings_text, IsAny, kind_text}
 use Rattle.un_report_reader.specs.Lines.{number_text, IsLong, IsShort, cost_text, bound_text, listing_head, HasLines, solution_head, AreNumbers}
 use Rattle.un_report_reader.specs.Lines.{tree_head, AreNodes, IsPlain, end_text}
 use Rattle.un_report_reader.specs.Readings.{IsReportRead}
 use Rattle.un_report_reader.specs.declared.kind.Kind.{Kind}
 use Rattle.un_report_reader.specs.declared.kind.Kind.TheVariants as KindOf
+use Rattle.un_report_reader.specs.declared.limits.Limits.{Limits}
+use Rattle.un_report_reader.proofs.LimitLaws.{limits_small}
 use Rattle.un_report_reader.proofs.Listings.{codes_once, no_bad_code}
 use Rattle.un_report_reader.proofs.NumberLaws.{numbers_once, number_stands, no_bad_number}
 use Rattle.un_report_reader.proofs.Once.{Once, number_line_once, function_once, settings_once, kind_once, tree_once, no_bad_node, end_once}
@@ -90,8 +94,10 @@ one_nodes count text m n (inr b) (inl c) = absurd (no_bad_node count b.value b.r
 one_nodes count text m n (inr b) (inr c) =
     one_behind (AreNodes count) tree_text length (λ ns. InEnd) (tree_once count) (λ v. one_end) text m n b c
 
-one_tree : (text : List ℕ) (m n : ℕ) → InTree text m → InTree text n → m ≡ n
-one_tree = one_line IsCountOfNodes tree_head InNodes (number_line_once (codes "tree ") 1 200000 (omega arith)) one_nodes
+one_tree : (l : Limits) → AreSmall l → (text : List ℕ) (m n : ℕ) → InTree l text m → InTree l text n → m ≡ n
+one_tree l small =
+    let most = small.lines in
+    one_line (AreFewLines l) tree_head InNodes (number_line_once (codes "tree ") 1 l.lines (omega (arith, most))) one_nodes
 
 -- ---- the solution
 
@@ -118,63 +124,68 @@ numbers_told count v w a b gv gw e =
     numbers_once count 0 v w a b (recursion_from_All IsShort v gv.1) (recursion_from_All IsShort w gw.1) (gv.0 ∙ sym gw.0)
     (ap (λ (n : ℕ). numbers_from n 0 v ++ a) (sym one_way) ∙ (e ∙ ap (λ (n : ℕ). numbers_from n 0 w ++ b) other))
 
-one_numbers : (count : ℕ) (text : List ℕ) (m n : ℕ) → InNumbers count text m → InNumbers count text n → m ≡ n
-one_numbers count text m n (inl b) (inl c) = one_bad_number count text m n b c
-one_numbers count text m n (inl b) (inr c) = absurd (no_bad_number count c.value c.rest text m c.is_good c.whole b)
-one_numbers count text m n (inr b) (inl c) = absurd (no_bad_number count b.value b.rest text n b.is_good b.whole c)
-one_numbers count text m n (inr b) (inr c) =
-    one_behind (AreNumbers count) numbers_text numbers_lines (λ xs. InTree) (numbers_told count) (λ v. one_tree) text m n b c
+one_numbers : (l : Limits) → AreSmall l → (count : ℕ) (text : List ℕ) (m n : ℕ) → InNumbers l count text m → InNumbers l count text n
+    → m ≡ n
+one_numbers l small count text m n (inl b) (inl c) = one_bad_number count text m n b c
+one_numbers l small count text m n (inl b) (inr c) = absurd (no_bad_number count c.value c.rest text m c.is_good c.whole b)
+one_numbers l small count text m n (inr b) (inl c) = absurd (no_bad_number count b.value b.rest text n b.is_good b.whole c)
+one_numbers l small count text m n (inr b) (inr c) =
+    one_behind (AreNumbers count) numbers_text numbers_lines (λ xs. InTree l) (numbers_told count) (λ v. one_tree l small) text m n b c
 
-one_solution : (text : List ℕ) (m n : ℕ) → InSolution text m → InSolution text n → m ≡ n
-one_solution = one_line IsShort solution_head InNumbers (short_once (codes "solution ")) one_numbers
+one_solution : (l : Limits) → AreSmall l → (text : List ℕ) (m n : ℕ) → InSolution l text m → InSolution l text n → m ≡ n
+one_solution l small = one_line IsShort solution_head (InNumbers l) (short_once (codes "solution ")) (one_numbers l small)
 
 -- ---- the listing
 
-one_bad_code : (count : ℕ) (text : List ℕ) (m n : ℕ) → IsBadCode count text m → IsBadCode count text n → m ≡ n
-one_bad_code count text m n (inl b) (inl c) = one_bad (first_lines count text) m n b.1 c.1
-one_bad_code count text m n (inl b) (inr c) = absurd (let long = b.0 in let short = c.0 in omega (arith, long, short))
-one_bad_code count text m n (inr b) (inl c) = absurd (let long = c.0 in let short = b.0 in omega (arith, long, short))
-one_bad_code count text m n (inr b) (inr c) = one_bad (text ++ codes "?") m n b.1 c.1
+one_bad_code : (l : Limits) → AreSmall l → (count : ℕ) (text : List ℕ) (m n : ℕ) → IsBadCode l count text m → IsBadCode l count text n
+    → m ≡ n
+one_bad_code l small count text m n (inl b) (inl c) = one_bad_within l.frame small.frame (first_lines count text) m n b.1 c.1
+one_bad_code l small count text m n (inl b) (inr c) = absurd (let long = b.0 in let short = c.0 in omega (arith, long, short))
+one_bad_code l small count text m n (inr b) (inl c) = absurd (let long = c.0 in let short = b.0 in omega (arith, long, short))
+one_bad_code l small count text m n (inr b) (inr c) = one_bad_within l.frame small.frame (text ++ codes "?") m n b.1 c.1
 
-one_code : (count : ℕ) (text : List ℕ) (m n : ℕ) → InCode count text m → InCode count text n → m ≡ n
-one_code count text m n (inl b) (inl c) = one_bad_code count text m n b c
-one_code count text m n (inl b) (inr c) = absurd (no_bad_code count c.value c.rest text m c.is_good c.whole b)
-one_code count text m n (inr b) (inl c) = absurd (no_bad_code count b.value b.rest text n b.is_good b.whole c)
-one_code count text m n (inr b) (inr c) =
-    one_behind (HasLines count) code_text (lines_in_code count) (λ k. InSolution)
-    (λ v w x y gv gw e. codes_once v w x y (gv ∙ sym gw) e) (λ v. one_solution) text m n b c
+one_code : (l : Limits) → AreSmall l → (count : ℕ) (text : List ℕ) (m n : ℕ) → InCode l count text m → InCode l count text n → m ≡ n
+one_code l small count text m n (inl b) (inl c) = one_bad_code l small count text m n b c
+one_code l small count text m n (inl b) (inr c) = absurd (no_bad_code l small count c.value c.rest text m c.is_good c.whole b)
+one_code l small count text m n (inr b) (inl c) = absurd (no_bad_code l small count b.value b.rest text n b.is_good b.whole c)
+one_code l small count text m n (inr b) (inr c) =
+    one_behind (HasLines l count) code_text (lines_in_code count) (λ k. InSolution l)
+    (λ v w x y gv gw e. codes_once v w x y (gv.0 ∙ sym gw.0) e) (λ v. one_solution l small) text m n b c
 
-one_listing : (text : List ℕ) (m n : ℕ) → InListing text m → InListing text n → m ≡ n
-one_listing = one_line IsShort listing_head InCode (short_once (codes "listing ")) one_code
+one_listing : (l : Limits) → AreSmall l → (text : List ℕ) (m n : ℕ) → InListing l text m → InListing l text n → m ≡ n
+one_listing l small = one_line IsShort listing_head (InCode l) (short_once (codes "listing ")) (one_code l small)
 
 -- ---- the answer and the head
 
-one_bound : (text : List ℕ) (m n : ℕ) → InBound text m → InBound text n → m ≡ n
-one_bound = one_line IsLong bound_text (λ bound. InListing) (long_once (codes "bound ")) (λ v. one_listing)
+one_bound : (l : Limits) → AreSmall l → (text : List ℕ) (m n : ℕ) → InBound l text m → InBound l text n → m ≡ n
+one_bound l small = one_line IsLong bound_text (λ bound. InListing l) (long_once (codes "bound ")) (λ v. one_listing l small)
 
-one_cost : (text : List ℕ) (m n : ℕ) → InCost text m → InCost text n → m ≡ n
-one_cost = one_line IsLong cost_text (λ cost. InBound) (long_once (codes "cost ")) (λ v. one_bound)
+one_cost : (l : Limits) → AreSmall l → (text : List ℕ) (m n : ℕ) → InCost l text m → InCost l text n → m ≡ n
+one_cost l small = one_line IsLong cost_text (λ cost. InBound l) (long_once (codes "cost ")) (λ v. one_bound l small)
 
-one_behind_kind : (kind : Kind) (text : List ℕ) (m n : ℕ) → BehindKind kind text m → BehindKind kind text n → m ≡ n
-one_behind_kind KindOf.Code = one_cost
-one_behind_kind KindOf.Infeasible = one_tree
-one_behind_kind KindOf.Spent = one_tree
+one_behind_kind : (l : Limits) → AreSmall l → (kind : Kind) (text : List ℕ) (m n : ℕ) → BehindKind l kind text m → BehindKind l kind text n
+    → m ≡ n
+one_behind_kind l small KindOf.Code = one_cost l small
+one_behind_kind l small KindOf.Infeasible = one_tree l small
+one_behind_kind l small KindOf.Spent = one_tree l small
 
-one_answer : (text : List ℕ) (m n : ℕ) → InAnswer text m → InAnswer text n → m ≡ n
-one_answer = one_line IsAny kind_text BehindKind kind_once one_behind_kind
+one_answer : (l : Limits) → AreSmall l → (text : List ℕ) (m n : ℕ) → InAnswer l text m → InAnswer l text n → m ≡ n
+one_answer l small = one_line IsAny kind_text (BehindKind l) kind_once (one_behind_kind l small)
 
-one_model : (text : List ℕ) (m n : ℕ) → InModel text m → InModel text n → m ≡ n
-one_model = one_line AreSettings settings_text (λ settings. InAnswer) settings_once (λ v. one_answer)
+one_model : (l : Limits) → AreSmall l → (text : List ℕ) (m n : ℕ) → InModel l text m → InModel l text n → m ≡ n
+one_model l small = one_line (AreSettings l) settings_text (λ settings. InAnswer l) (settings_once l small) (λ v. one_answer l small)
 
-one_function : (text : List ℕ) (m n : ℕ) → InFunction text m → InFunction text n → m ≡ n
-one_function = one_line IsName function_text (λ name. InModel) function_once (λ v. one_model)
+one_function : (l : Limits) → AreSmall l → (text : List ℕ) (m n : ℕ) → InFunction l text m → InFunction l text n → m ≡ n
+one_function l small = one_line IsName function_text (λ name. InModel l) function_once (λ v. one_model l small)
 
 -- ---- texts
 
 pub one_report_line : (text : List ℕ) (m n : ℕ) → IsFirstBad text m → IsFirstBad text n → m ≡ n
-one_report_line = one_line IsVersion version_text (λ v. InFunction) (number_line_once (codes "unison ") 1 1 (omega arith)) (λ v. one_function)
+one_report_line =
+    one_line IsVersion version_text (λ v. InFunction (limits_of v)) (number_line_once (codes "unison ") 1 LAST (omega arith))
+    (λ v. one_function (limits_of v) (limits_small v))
 
 pub report_not_bad : (text : List ℕ) (r : Report) (line : ℕ) → IsReportRead text r → IsFirstBad text line → ⊥
 report_not_bad text r line h bad =
-    text_is_good text r.name r.options r.nodes r.answer (length r.tree.nodes.items) r.tree.nodes.items line
+    text_is_good text r.version r.name r.options r.nodes r.answer (length r.tree.nodes.items) r.tree.nodes.items line
     (report_parts text r h.is_report h.spelled) (refl, h.is_report.fit) bad

@@ -141,6 +141,7 @@ module _ (f : Function) (m : Model) (e : IsExtOf m.ext.table f m.ext) (nodes : â
         answer = p.sound;
       } in
       record {
+        versioned = w.versioned;
         chosen = w.chosen;
         budget = w.budget;
         few = p.few;

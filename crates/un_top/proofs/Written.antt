@@ -15,6 +15,8 @@ use Rattle.un_domains.specs.Order.{Below}
 use Rattle.un_domains.specs.OrderLaws.{fold_max-le, greatest_below}
 use Rattle.un_domains.specs.Sets.{Sets, set_at, greatest, IsIn}
 use Rattle.un_domains.specs.declared.domain.Domain.TheVariants.{Range}
+use Rattle.un_isa.specs.Versions.{IsVersion}
+use Rattle.un_isa.specs.declared.table.TheConstants.{LAST}
 use Rattle.un_ir.specs.Extended.{size_of}
 use Rattle.un_ir.specs.Kinds.{is_optional, has_choices}
 use Rattle.un_ir.specs.declared.extended.ExtBlock.{ExtBlock}
@@ -22,6 +24,9 @@ use Rattle.un_ir.specs.declared.extended.ExtOp.{ExtOp}
 use Rattle.un_ir.specs.declared.extended.Operand.{Operand}
 use Rattle.un_ir.specs.declared.function.Function.{Function}
 use Rattle.un_listing.specs.Listing.{block_lines, packet_line}
+use Rattle.un_listing_reader.proofs.CodeBack.{frame_small}
+use Rattle.un_model.specs.Options.{AreOptions}
+use Rattle.un_model.specs.declared.model.Options.{Options}
 use Rattle.un_model.specs.Variables.{count_if, has_cycle, ops_count, blocks_count, blocks_domains, domains_of, own_horizon}
 use Rattle.un_model.specs.declared.model.Model.{Model}
 use Rattle.un_model.specs.declared.model.Solution.{Solution}
@@ -50,6 +55,7 @@ use Rattle.un_report.specs.declared.report.Answered.{Answered}
 use Rattle.un_report.specs.declared.report.Answered.TheVariants.{Code, Infeasible, Spent}
 use Rattle.un_report.specs.declared.report.Report.{Report}
 use Rattle.un_report_reader.specs.Answers.{IsAnswer, IsListed, AreValues}
+use Rattle.un_report_reader.specs.Limits.{AreWithin, AreFewLines, limits_of}
 use Rattle.un_report_reader.specs.Lines.{IsShort}
 use Rattle.un_report_reader.specs.Readings.{IsReport}
 use Rattle.un_top.specs.Searches.{AreLong}
@@ -134,12 +140,12 @@ count_lines (b ∷ bs) =
     let both = length-append (block_lines b) (flat_map block_lines bs) in
     omega (arith, rest, all, own, both)
 
-code_listed : (c : CodeValue) → IsListed c
+code_listed : (c : CodeValue) → IsListed (limits_of LAST) c
 code_listed c =
     let few_blocks = ∥∥₁_elim c.rules le_prop (λ k. k.few_blocks) in
     let few_packets = ∥∥₁_elim c.rules le_prop (λ k. k.few_packets) in
     let lines = count_lines c.blocks in
-    (omega arith, omega (arith, few_blocks, few_packets, lines))
+    ((omega arith, omega (arith, few_blocks, few_packets, lines)), frame_small c)
 
 -- ---- the numbers of a tree
 
@@ -202,21 +208,29 @@ some_nodes [] m limit h = absurd (none h.whole)
     none e = cc e
 some_nodes (n ∷ nodes) m limit h = omega arith
 
-answer_fits : (f : Function) (m : Model) (t : List Node) (a : Answered) → IsProblemOf f m → IsSoundAnswer m t a → AreLong a → IsAnswer a
+answer_fits : (f : Function) (m : Model) (t : List Node) (a : Answered) → IsProblemOf f m → IsSoundAnswer m t a → AreLong a
+    → IsAnswer (limits_of LAST) a
 answer_fits f m t (Code cost bound code s) p sound long = (long.0, long.1, code_listed code, values_short f m s p sound.solution)
 answer_fits f m t Infeasible p sound long = tt
 answer_fits f m t Spent p sound long = tt
 
-pub is_report : (f : Function) (m : Model) (nodes : ℕ) (r : Report) → IsProblemOf f m → r.options ≡ m.options → r.nodes ≡ nodes
+within_last : (o : Options) → AreOptions o → AreWithin (limits_of LAST) o
+within_last o h = record { regs = h.regs; slots = h.slots }
+
+few_last : (n : ℕ) → IsCountOfNodes n → AreFewLines (limits_of LAST) n
+few_last n h = (h.0, h.1)
+
+pub is_report : (f : Function) (m : Model) (nodes : ℕ) (r : Report) → IsProblemOf f m → r.version ≡ LAST → r.options ≡ m.options → r.nodes ≡ nodes
     → IsSoundFor m f r → length r.tree.nodes.items ≤ nodes → AreLong r.answer → IsCountOfNodes nodes → IsReport r
-is_report f m nodes r p chosen budget sound few long count =
+is_report f m nodes r p versioned chosen budget sound few long count =
     let t = r.tree.nodes.items in
     let standing = sound_standing m t r.answer sound.answer in
     record {
+      version = subst IsVersion (sym versioned) (omega arith, omega arith);
       name = subst (λ (name : List ℕ). is_name name ≡ true) (sym sound.named) (∥∥₁_elim f.well_formed (hlevel props) (λ w. w.named));
-      options = rw chosen p.options;
+      options = rw (versioned, chosen) (within_last m.options p.options);
       nodes = rw budget count;
-      answer = answer_fits f m t r.answer p sound.answer long;
-      count = (some_nodes t m (limit_of r.answer) standing, (let most = count.1 in omega (arith, few, most)));
+      answer = rw versioned (answer_fits f m t r.answer p sound.answer long);
+      count = rw versioned (few_last (length t) (some_nodes t m (limit_of r.answer) standing, (let most = count.1 in omega (arith, few, most))));
       fit = tree_fits f m (limit_of r.answer) t p standing;
     }

@@ -10,7 +10,8 @@ use Rattle.un_commands.specs.declared.command.ReadingCommand.{ReadingCommand}
 use Rattle.un_commands.specs.declared.command.ReadingCommand.TheVariants.{Alloc, Run, RunCode, Check}
 use Rattle.un_commands.specs.declared.command.SearchOptions.{SearchOptions}
 use Rattle.un_ir.specs.declared.function.Function.{Function}
-use Rattle.un_isa.specs.Hexagon.{HEXAGON}
+use Rattle.un_isa.specs.Versions.{table_of}
+use Rattle.un_isa.specs.declared.table.TheConstants.{LAST}
 use Rattle.un_outside.specs.declared.status.NoCause.{NoCause}
 use Rattle.un_outside.specs.declared.status.Status.{Status}
 use Rattle.un_outside.specs.declared.status.Status.TheVariants.{Done, Infeasible, Spent, NoMemory, No, BadReport}
@@ -103,7 +104,7 @@ EndsCheck status = (status ≡ Done) ⊎ ((cause : NoCause) × (status ≡ No ca
 abbrev pub of_alloc : SearchOptions → Behaviour
 of_alloc o = record {
   most = TEXT;
-  Output = λ text status out. IsReportOf HEXAGON (model_options o) o.nodes text status out;
+  Output = λ text status out. IsReportOf (table_of LAST) (model_options o) o.nodes text status out;
   Ending = EndsSearch;
   Fault = IsFault;
   Faultless = λ text. (f : Function) × IsRead text f;

@@ -3,7 +3,7 @@ use Rattle.std.specs.Prelude.{ℕ, ◌≡◌, List, ◌++◌, ⊤, codes, decima
 use Rattle.std.specs.declared.result.Result.{Result}
 use Rattle.std.specs.declared.result.Result.TheVariants.{Ok, Err}
 use Rattle.un_base.specs.Lines.{joined_lines}
-use Rattle.un_isa.specs.Hexagon.{HEXAGON}
+use Rattle.un_isa.specs.Versions.{table_of}
 use Rattle.un_ir.specs.declared.function.Function.{Function}
 use Rattle.un_model.specs.declared.model.Model.{Model}
 use Rattle.un_outside.specs.declared.status.Status.{Status}
@@ -66,16 +66,16 @@ told_status (Err cause) = No cause
 
 -- ---- over an input
 
--- the answer to the report that a text is, on a function: what it claims is all right, or there is a first cause. Where it is all right, the
--- report is sound; and by the function's model its code does what the function does, for its cost, and no solution costs less than its bound
+-- the answer to the report that a text is, on a function, by the table of its version: what it claims is all right, or there is a first
+-- cause. Where it is all right, the report is sound; and by the function's model its code does what the function does, for its cost, and no solution costs less than its bound
 pub record IsAnswered (f : Function) (text : List ℕ) (a : Answered) (result : Result (Unit {0}) NoCause) : Type 0 where
   pub report : Report
   pub reported : IsReportRead text report
   pub answer : report.answer ≡ a
-  pub told : IsTold HEXAGON f report.options (claim_of report) result
-  pub sound : OnOk result (IsSound HEXAGON f report)
-  pub code : OnOk result ((m : Model) → IsModelOf HEXAGON f report.options m → HasCodeFor f m report.answer)
-  pub bounds : OnOk result ((m : Model) → IsModelOf HEXAGON f report.options m → BoundsAll m report.answer)
+  pub told : IsTold (table_of report.version) f report.options (claim_of report) result
+  pub sound : OnOk result (IsSound (table_of report.version) f report)
+  pub code : OnOk result ((m : Model) → IsModelOf (table_of report.version) f report.options m → HasCodeFor f m report.answer)
+  pub bounds : OnOk result ((m : Model) → IsModelOf (table_of report.version) f report.options m → BoundsAll m report.answer)
 
 -- its line, and how a run ends that writes it
 pub record IsCheckOf (f : Function) (text : List ℕ) (status : Status) (out : List ℕ) : Type 0 where

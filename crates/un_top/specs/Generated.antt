@@ -2,7 +2,8 @@
 use Rattle.std.specs.Prelude.{ℕ, ◌≡◌, List, ◌++◌, length, codes, decimal}
 use Rattle.std.specs.List.{flat_map}
 use Rattle.un_base.specs.declared.ids.NameId.{NameId}
-use Rattle.un_isa.specs.Hexagon.{HEXAGON}
+use Rattle.un_isa.specs.Versions.{table_of}
+use Rattle.un_isa.specs.declared.table.TheConstants.{LAST}
 use Rattle.un_ir.specs.declared.function.Block.{Block}
 use Rattle.un_ir.specs.declared.function.Function.{Function}
 use Rattle.un_gen.specs.Generated.{IsGenerated}
@@ -59,6 +60,6 @@ pub record IsGeneratedReport (seed size nodes : ℕ) (status : Status) (out : Li
   pub function : Function
   pub is : IsGenerated seed size function
   pub model : Model
-  pub is_model : IsModelOf HEXAGON function default_options model
+  pub is_model : IsModelOf (table_of LAST) function default_options model
   pub summed : IsSummedUp seed size nodes function model is_model.ext.live status out
   pub done : status ≡ Done

@@ -5,6 +5,7 @@ use Rattle.un_outside.specs.declared.status.Status.{Status}
 use Rattle.un_outside.specs.declared.status.Status.TheVariants.{Done, Infeasible as NoCode, Spent as NoNodes}
 use Rattle.un_outside.specs.declared.status.NoCause.{NoCause}
 use Rattle.un_isa.specs.declared.table.Table.{Table}
+use Rattle.un_isa.specs.declared.table.TheConstants.{LAST}
 use Rattle.un_ir.specs.declared.function.Function.{Function}
 use Rattle.un_packet.specs.declared.code.Code.{Code as CodeValue}
 use Rattle.un_simulation.specs.Count.{count_of}
@@ -61,8 +62,10 @@ status_of (Code cost bound code s) = Done
 status_of Infeasible = NoCode
 status_of Spent = NoNodes
 
--- the report of a search of the function's model with so many nodes, where these names are live at each block's start; its tree has no more
+-- the report of a search of the function's model with so many nodes, where these names are live at each block's start, in the last version;
+-- its tree has no more
 pub record IsSearchOf (f : Function) (m : Model) (live : List (List NameId)) (nodes : ℕ) (r : Report) : Type 0 where
+  pub versioned : r.version ≡ LAST
   pub chosen : r.options ≡ m.options
   pub budget : r.nodes ≡ nodes
   pub few : length r.tree.nodes.items ≤ nodes

@@ -1,6 +1,7 @@
 -- From the start of a search to its report.
 use Rattle.std.specs.Prelude.{ℕ, ◌≡◌, ⊤, List, None, Some}
 use Rattle.std.specs.declared.option.Option.{Option}
+use Rattle.un_isa.specs.declared.table.TheConstants.{LAST}
 use Rattle.un_ir.specs.declared.function.Function.{Function}
 use Rattle.un_simulation.specs.Count.{count_of}
 use Rattle.un_simulation.specs.Simulation.{Simulates}
@@ -51,8 +52,9 @@ AreLong (Code cost bound code s) = IsLong cost × IsLong bound
 AreLong Infeasible = ⊤
 AreLong Spent = ⊤
 
--- the report has the function's name, the model's options and the nodes, and the search's answer
+-- the report has the last version, the function's name, the model's options and the nodes, and the search's answer
 pub record IsReported (f : Function) (m : Model) (nodes : ℕ) (a : Answer) (r : Report) : Type 0 where
+  pub versioned : r.version ≡ LAST
   pub named : r.name ≡ f.name
   pub chosen : r.options ≡ m.options
   pub budget : r.nodes ≡ nodes

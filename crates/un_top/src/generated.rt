@@ -20,7 +20,7 @@ use un_commands::command::Command;
 use un_gen::generate::generate;
 use un_ir::function::{Block, Function};
 use un_ir::text::{put_number, put_text};
-use un_isa::table::hexagon;
+use un_isa::table::{LAST, table_of};
 use un_model::model::Model;
 use un_problem::problem::{default_options, model};
 use un_report::print::print_report;
@@ -139,7 +139,7 @@ pub fn generated_report(alloc: Global, seed: u64, size: u32, nodes: u32) -> Resu
     ensures written { IfOk result (λ out. IsWritten out.status) }
 {
     let f = generate(alloc, seed, size)?;
-    let m = model(alloc, &f, &hexagon(), &default_options())?;
+    let m = model(alloc, &f, &table_of(LAST), &default_options())?;
     let output = searched(alloc, seed, size, nodes, &f, &m)?;
     Ok(output)
 }

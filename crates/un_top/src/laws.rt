@@ -1,7 +1,8 @@
 //! What `alloc` and `check` have to do with each other, as contracts of functions that do nothing.
 
 ghost use Rattle.std.specs.Prelude.{◌≡◌, ℕ, List};
-ghost use Rattle.un_isa.specs.Hexagon.{HEXAGON};
+ghost use Rattle.un_isa.specs.Versions.{table_of};
+ghost use Rattle.un_isa.specs.declared.table.TheConstants.{LAST};
 ghost use Rattle.un_model.specs.declared.model.Options.{Options};
 ghost use Rattle.un_outside.specs.declared.status.Status.{Status};
 ghost use Rattle.un_reader.specs.Read.{IsRead};
@@ -13,9 +14,9 @@ ghost use Rattle.un_top.specs.Reports.{IsReportOf};
 /// An input of a function's text and what `alloc` prints of it is a function and a report, and its check accepts it.
 pub fn accepts_report(input: &[u8])
     ensures input { (options : Options) (nodes : ℕ) (status : Status)
-        → IsReportOf HEXAGON options nodes (first_part input.now) status (second_part input.now) → IsCheckInput input.now }
+        → IsReportOf (table_of LAST) options nodes (first_part input.now) status (second_part input.now) → IsCheckInput input.now }
     ensures accepted { (options : Options) (nodes : ℕ) (status : Status)
-        → IsReportOf HEXAGON options nodes (first_part input.now) status (second_part input.now)
+        → IsReportOf (table_of LAST) options nodes (first_part input.now) status (second_part input.now)
         → (told : Status) (line : List ℕ) → IsCheck input.now told line → told ≡ Status.Done }
 {
     let _ = input;

@@ -8,7 +8,8 @@ ghost use Rattle.un_commands.specs.Settings.{IsCountOfNodes};
 ghost use Rattle.un_commands.specs.declared.command.Command.{Command};
 ghost use Rattle.un_commands.specs.declared.command.MakingCommand.{MakingCommand};
 ghost use Rattle.un_commands.specs.declared.command.ReadingCommand.{ReadingCommand};
-ghost use Rattle.un_isa.specs.Hexagon.{HEXAGON};
+ghost use Rattle.un_isa.specs.Versions.{table_of};
+ghost use Rattle.un_isa.specs.declared.table.TheConstants.{LAST};
 ghost use Rattle.un_problem.specs.Problems.{IsProblemOf, IsExtOf};
 ghost use Rattle.un_reader.specs.Read.{IsRead};
 ghost use Rattle.un_top.specs.Behaviours.{of_alloc, of_run, of_run_code, of_check, behaviour_of, IsMade};
@@ -27,7 +28,7 @@ use un_base::memory_error::NoMemory;
 use un_commands::command::{Command, MakingCommand, ReadingCommand, SearchOptions};
 use un_commands::line::read_command;
 use un_ir::function::Function;
-use un_isa::table::hexagon;
+use un_isa::table::{LAST, table_of};
 use un_model::model::Model;
 use un_outside::outside::Source;
 use un_outside::status::Status;
@@ -62,11 +63,11 @@ fn report_of(
 ) -> Result<Output, NoMemory>
     requires read { IsRead text.now f.now }
     requires options { AreSearchOptions options }
-    ensures report { IfOk result (λ out. IsReportOf HEXAGON (model_options options) options.nodes text.now out.status out.text.items) }
+    ensures report { IfOk result (λ out. IsReportOf (table_of LAST) (model_options options) options.nodes text.now out.status out.text.items) }
     ensures written { IfOk result (λ out. IsWritten out.status) }
 {
     let _ = text;
-    let model = model(alloc, f, &hexagon(), &options.model_options())?;
+    let model = model(alloc, f, &table_of(LAST), &options.model_options())?;
     let output = found(alloc, f, &model, options.nodes)?;
     Ok(output)
 }

@@ -2,6 +2,7 @@
 
 ghost use Rattle.std.specs.Prelude.{◌≡◌, ◌≤◌, IfOk};
 ghost use Rattle.un_commands.specs.Settings.{IsCountOfNodes};
+ghost use Rattle.un_isa.specs.declared.table.TheConstants.{LAST};
 ghost use Rattle.un_model.specs.Solutions.{IsSolution};
 ghost use Rattle.un_problem.specs.Problems.{IsProblemOf, IsExtOf};
 ghost use Rattle.un_report_reader.specs.Readings.{IsReport};
@@ -15,6 +16,7 @@ use un_baseline::roomy::is_roomy;
 use un_baseline::spill::spill_everywhere;
 use un_emit::emit::emit;
 use un_ir::function::Function;
+use un_isa::table::LAST;
 use un_model::model::{Model, Solution};
 use un_packet::code::Code;
 use un_report::report::{Answered, Report};
@@ -46,8 +48,9 @@ pub fn code_of(alloc: Global, f: &Function, m: &Model, s: &Solution) -> Result<C
     Ok(code)
 }
 
-/// A report of a function, under the options of its model.
+/// A report of a function in the last version, under the options of its model.
 fn report_with(f: &Function, m: &Model, nodes: u32, answer: Answered, tree: Tree) -> Report
+    ensures versioned { result.version ≡ LAST }
     ensures named { result.name ≡ f.now.name }
     ensures chosen { result.options ≡ m.now.options }
     ensures budget { result.nodes ≡ nodes }
@@ -55,6 +58,7 @@ fn report_with(f: &Function, m: &Model, nodes: u32, answer: Answered, tree: Tree
     ensures tree { result.tree ≡ tree }
 {
     Report {
+        version: LAST,
         name: f.name,
         options: m.options,
         nodes,

@@ -12,7 +12,7 @@ zip_all R (x ∷ xs) [] c e h = absurd (omega (arith, e))
 zip_all R (x ∷ xs) (y ∷ ys) c e h =
     (h zero y (omega arith), zip_all R xs ys c (omega (arith, e)) (λ n d lt. h (suc n) d (omega (arith, lt))))
 
-zip_length : {A B : Type 0} (R : A → B → Type 0) (xs : List A) (ys : List B) → AllZip R xs ys → length xs ≡ length ys
+pub zip_length : {A B : Type 0} (R : A → B → Type 0) (xs : List A) (ys : List B) → AllZip R xs ys → length xs ≡ length ys
 zip_length R [] [] h = refl
 zip_length R [] (y ∷ ys) h = absurd h
 zip_length R (x ∷ xs) [] h = absurd h

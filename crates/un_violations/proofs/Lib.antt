@@ -3,6 +3,8 @@ pub mod Apartness
 pub mod Calls
 pub mod Domains
 pub mod Edges
+pub mod LoosePins
+pub mod Marking
 pub mod Orders
 pub mod Places
 pub mod Rooms

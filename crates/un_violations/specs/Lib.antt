@@ -1,1 +1,3 @@
+pub mod Loose
+pub mod Marks
 pub mod Orders

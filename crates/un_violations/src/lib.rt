@@ -5,6 +5,7 @@ mod bounds;
 mod clauses;
 mod congruences;
 mod frame;
+mod loose;
 mod occupations;
 mod packets;
 pub mod violations;

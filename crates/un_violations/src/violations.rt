@@ -4,8 +4,9 @@ ghost use Rattle.std.specs.Prelude.{◌≡◌, ◌↔◌, ◌++◌, ◌∷◌, [
 ghost use Rattle.un_model.specs.Congruences.{KeepsCongruences};
 ghost use Rattle.un_model.specs.Schedules.{schedule_of};
 ghost use Rattle.un_model.specs.Solutions.{latency_gap, KeepsRegisters, KeepsHomes, Tells, broken, broken_after, broken_clauses};
-ghost use Rattle.un_model.specs.Solutions.{IsSolution, ListsBroken};
+ghost use Rattle.un_model.specs.Solutions.{IsSolution, IsSchedule, ListsBroken};
 ghost use Rattle.un_model.specs.Variables.{IsModel};
+ghost use Rattle.un_violations.specs.Loose.{loose_domains, IsLoose};
 
 use crate::bounds::{Rule, keeps_order};
 use crate::clauses::{
@@ -13,10 +14,12 @@ use crate::clauses::{
 };
 use crate::congruences::keeps_congruences;
 use crate::frame::keeps_frame;
+use crate::loose::loose_domains;
 use crate::occupations::{are_apart, are_spared};
 use crate::packets::keeps_packets;
 use std::alloc::Global;
 use un_base::memory_error::NoMemory;
+use un_domains::domain::Domain;
 use un_ir::extended::ExtBlock;
 use un_model::cost::value;
 use un_model::model::{Model, Solution};
@@ -42,10 +45,16 @@ fn keeps_places(alloc: Global, blocks: &[ExtBlock], t: &Schedule) -> Result<bool
     Ok(congruent && keeps_homes(t.reads.as_slice(), t.ranges.as_slice()))
 }
 
-/// Which clauses a schedule keeps.
-fn verdict(alloc: Global, m: &Model, values: &[u32], t: &Schedule) -> Result<Verdict, NoMemory>
+/// Which clauses a schedule keeps, its values in these domains.
+fn verdict(
+    alloc: Global,
+    m: &Model,
+    domains: &[Domain],
+    values: &[u32],
+    t: &Schedule,
+) -> Result<Verdict, NoMemory>
     requires { t.now ≡ schedule_of m.now values.now }
-    ensures { IfOk result (λ v. Tells (latency_gap m.now.ext.table) m.now.domains m.now values.now t.now v) }
+    ensures { IfOk result (λ v. Tells (latency_gap m.now.ext.table) domains.now m.now values.now t.now v) }
 {
     let table = &m.ext.table;
     let blocks = m.ext.blocks.as_slice();
@@ -58,7 +67,7 @@ fn verdict(alloc: Global, m: &Model, values: &[u32], t: &Schedule) -> Result<Ver
     let homes = keeps_places(alloc, blocks, t)?;
     let frame = keeps_frame(alloc, blocks.len(), value(values, m.flag), t)?;
     Ok(Verdict {
-        domains: keeps_domains(m.domains.as_slice(), values),
+        domains: keeps_domains(domains, values),
         zeros: keeps_zeros(issues, ranges),
         choices: keeps_choices(reads, ranges),
         spaces: keeps_spaces(reads, ranges),
@@ -114,14 +123,21 @@ fn listed(alloc: Global, v: Verdict) -> Result<Vec<Broken>, NoMemory>
     Ok(list)
 }
 
-/// The clauses that a schedule breaks.
-fn broken_in(alloc: Global, m: &Model, s: &Solution, t: &Schedule) -> Result<Vec<Broken>, NoMemory>
-    requires { t.now ≡ schedule_of m.now s.now.values }
+/// The clauses that a schedule breaks, its values in these domains.
+fn broken_in(
+    alloc: Global,
+    m: &Model,
+    domains: &[Domain],
+    s: &Solution,
+) -> Result<Vec<Broken>, NoMemory>
+    requires model { IsModel m.now }
     ensures lists { IfOk result
-        (λ list. ListsBroken (latency_gap m.now.ext.table) m.now.domains m.now s.now.values (map (λ b. b.clause) list.items)) }
-    ensures solves { IfOk result (λ list. (list.items ≡ []) ↔ IsSolution m.now s.now) }
+        (λ list. ListsBroken (latency_gap m.now.ext.table) domains.now m.now s.now.values (map (λ b. b.clause) list.items)) }
+    ensures solves { IfOk result (λ list. (list.items ≡ [])
+        ↔ IsSchedule (latency_gap m.now.ext.table) domains.now m.now s.now.values (schedule_of m.now s.now.values)) }
 {
-    let found = verdict(alloc, m, s.values.as_slice(), t)?;
+    let t = schedule(alloc, m, s)?;
+    let found = verdict(alloc, m, domains, s.values.as_slice(), &t)?;
     let list = listed(alloc, found)?;
     Ok(list)
 }
@@ -134,6 +150,17 @@ pub fn violations(alloc: Global, m: &Model, s: &Solution) -> Result<Vec<Broken>,
         (λ list. ListsBroken (latency_gap m.now.ext.table) m.now.domains m.now s.now.values (map (λ b. b.clause) list.items)) }
     ensures solves { IfOk result (λ list. (list.items ≡ []) ↔ IsSolution m.now s.now) }
 {
-    let t = schedule(alloc, m, s)?;
-    broken_in(alloc, m, s, &t)
+    broken_in(alloc, m, m.domains.as_slice(), s)
+}
+
+/// The same where no cycle and no end of a block is too late: the clauses that keep an assignment from being a schedule of any
+/// length.
+pub fn loose_violations(alloc: Global, m: &Model, s: &Solution) -> Result<Vec<Broken>, NoMemory>
+    requires model { IsModel m.now }
+    ensures lists { IfOk result
+        (λ list. ListsBroken (latency_gap m.now.ext.table) (loose_domains m.now) m.now s.now.values (map (λ b. b.clause) list.items)) }
+    ensures loose { IfOk result (λ list. (list.items ≡ []) ↔ IsLoose m.now s.now) }
+{
+    let domains = loose_domains(alloc, m)?;
+    broken_in(alloc, m, domains.as_slice(), s)
 }

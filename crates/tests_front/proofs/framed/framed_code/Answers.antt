@@ -10,4 +10,4 @@ pub invariant_of-result : goal.invariant_of-result
 invariant_of-result c =
     let same : c.push.new.self ≡ framed = c.in_ok-push.ensures.ok
     ∙ rw (c.new-blocks.ensures, c.label-label.ensures, c.in_ok-packets.ensures) refl in
-    record { rules = ∣ subst (λ (bs : List CodeBlock). KeepsRules 256 bs) (sym same) kept_with_frame ∣₁ }
+    record { rules = ∣ subst (λ (bs : List CodeBlock). KeepsRules 1024 bs) (sym same) kept_with_frame ∣₁ }

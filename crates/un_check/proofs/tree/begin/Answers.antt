@@ -1,7 +1,7 @@
-use Rattle.std.proofs.Common.{refl, sym, ap, subst, ◌∙◌, length, true}
+use Rattle.std.proofs.Common.{refl, ap, subst, ◌∙◌, length}
 use Rattle.un_domains.specs.Sets.{NoneEmpty}
-use Rattle.un_certificate.specs.Certificates.{root_of}
-use Rattle.un_check.proofs.BeginLemmas.{posted_of, path_none, first_at, first_walk, all_room}
+use Rattle.un_certificate.proofs.Posting.{are_posted}
+use Rattle.un_check.proofs.BeginLemmas.{path_none, first_at, first_walk, all_room}
 use Rattle.un_check.proofs.tree.begin.Goals as goal
 
 pub returns-clause-rules : goal.returns-clause-rules
@@ -14,7 +14,12 @@ returns-clause-rules c =
       extended = c.requires.extended;
       table = c.requires.fit;
       full = subst NoneEmpty e.sets e.live;
-      postable = record { props = p.props.items; are = posted_of g.m.now g.limit p.store.sets p.props.items e.sets e.exact e.reads e.fixed };
+      postable = record {
+        props = p.props.items;
+        are = are_posted g.m.now g.limit p.props.items
+            (record { model = c.requires.model; extended = c.requires.extended; fit = c.requires.fit; options = c.requires.options })
+            e.asks e.tight;
+      };
     }
 
 pub returns-clause-at : goal.returns-clause-at
@@ -24,7 +29,9 @@ returns-clause-at c =
     let e = c.in_ok-posted.ensures in
     let r = c.in_ok-room.ensures in
     first_at g.m.now g.limit (subst NoneEmpty e.sets e.live) p.props.items
-    (posted_of g.m.now g.limit p.store.sets p.props.items e.sets e.exact e.reads e.fixed) p.store.sets c.in_ok-room.room e.sets r.engine r.sets
+    (are_posted g.m.now g.limit p.props.items
+    (record { model = c.requires.model; extended = c.requires.extended; fit = c.requires.fit; options = c.requires.options })
+    e.asks e.tight) p.store.sets c.in_ok-room.room e.sets r.engine r.sets
     r.marked r.live r.dead
 
 pub returns-clause-room : goal.returns-clause-room

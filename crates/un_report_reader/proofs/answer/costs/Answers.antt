@@ -6,6 +6,6 @@ use Rattle.un_report_reader.proofs.answer.costs.Goals as goal
 
 pub returns-in_err-bound-clause-bad : goal.returns-in_err-bound-clause-bad
 returns-in_err-bound-clause-bad c =
-    let p = err_from_is_err_and c.from_residual-in_err-bound.result c.from_residual-in_err-bound.ensures.1 in
-    rw (p.1, p.2) (past_line IsLong cost_text (λ n. InBound) c.args.at _ _ c.in_ok-cost.ensures.ok _
-    (in_line IsLong bound_text (λ n. InListing) _ _ c.in_err-bound.ensures.bad))
+    λ l. let p = err_from_is_err_and c.from_residual-in_err-bound.result c.from_residual-in_err-bound.ensures.1 in
+    rw (p.1, p.2) (past_line IsLong cost_text (λ n. InBound l) c.args.at _ _ c.in_ok-cost.ensures.ok _
+    (in_line IsLong bound_text (λ n. InListing l) _ _ c.in_err-bound.ensures.bad))

@@ -7,7 +7,7 @@ use Rattle.un_search.proofs.solve.from_none.Goals as goal
 pub returns-in_ok-answer-in-Found-clause-few : goal.returns-in_ok-answer-in-Found-clause-few
 returns-in_ok-answer-in-Found-clause-few c few =
     let m = c.args.m.now in
-    let first = c.in_ok-best-in-Found.best.solution in
+    let first = c.in_ok-best-in-Found.best.best.solution in
     let root = subst (IsByRoot m None) c.in-Found.is (c.in_ok-solution.ensures.first few) in
     let left = subst (IsLeftOfRoot m None) (sym (c.in_ok-best-in-Found.ensures.few few)) root in
     on_code (IsByRounds m (Some first)) (IsByRounds m None) (λ s h. rounds_from m None None first s left h) _

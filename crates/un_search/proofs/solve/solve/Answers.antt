@@ -6,7 +6,7 @@ use Rattle.un_model.specs.Solutions.{IsSolution}
 use Rattle.un_tree.specs.declared.node.Node.{Node}
 use Rattle.un_search.specs.Answers.{IsRefuted}
 use Rattle.un_search.specs.Solved.{IsByRounds}
-use Rattle.un_search.specs.declared.best.Best.{Best}
+use Rattle.un_search.specs.declared.root.Incumbent.{Incumbent}
 use Rattle.un_certificate.specs.Certificates.{root_of}
 use Rattle.un_post.proofs.Ready.{posted_live}
 use Rattle.un_search.proofs.EnoughLemmas.{none_left_open, code_left_open}
@@ -42,6 +42,6 @@ pub returns-in_ok-answer-in-Some-clause-few : goal.returns-in_ok-answer-in-Some-
 returns-in_ok-answer-in-Some-clause-few c few =
     let m = c.args.m.now in
     let best = c.in-Some.best in
-    let begun = subst (λ (o : Option Best). option_map (λ (b : Best). b.solution) o ≡ c.args.start) c.in-Some.is (c.in_ok-incumbent.ensures.few few) in
-    on_code (IsByRounds m (Some best.solution)) (IsByRounds m c.args.start)
+    let begun = subst (λ (o : Option Incumbent). option_map (λ (i : Incumbent). i.best.solution) o ≡ c.args.start) c.in-Some.is (c.in_ok-incumbent.ensures.few few) in
+    on_code (IsByRounds m (Some best.best.solution)) (IsByRounds m c.args.start)
     (λ s h. subst (λ (o : Option Solution). IsByRounds m o s) begun h) _ (c.in_ok-answer-in-Some.ensures.few few)

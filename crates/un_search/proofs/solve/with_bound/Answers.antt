@@ -1,7 +1,11 @@
+use Rattle.un_tree.specs.Waits.{visits_of}
+use Rattle.un_certificate.specs.Certificates.{root_of}
 use Rattle.un_search.proofs.SolveLemmas.{best_code}
 use Rattle.un_search.proofs.solve.with_bound.Goals as goal
 
 pub returns-clause-last : goal.returns-clause-last
 returns-clause-last c =
-    best_code c.args.m.now c.requires.model c.requires.extended c.requires.fit c.requires.options c.args.nodes c.args.best
-    c.args.tree.nodes.items _ c.args.low _ c.requires.best c.requires.ended c.requires.lowest c.requires.closed c.plain_bound.ensures c.max-bound.ensures
+    let m = c.args.m.now in
+    let p = c.requires.postable in
+    best_code m p.model p.extended p.fit p.options c.args.nodes c.args.best c.args.tree.nodes.items _ c.requires.best c.requires.ended
+    (c.bound_of-bound.ensures c.args.tree.nodes.items c.requires.lowest)

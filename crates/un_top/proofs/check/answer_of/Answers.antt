@@ -1,8 +1,12 @@
+use Rattle.un_report_reader.proofs.LimitLaws.{options_of}
 use Rattle.un_top.proofs.CheckLaws.{view_lines, answered}
 use Rattle.un_top.proofs.check.answer_of.Goals as goal
 
+pub check_view-requires-clause-version : goal.check_view-requires-clause-version
+check_view-requires-clause-version c = c.requires.is_view.version
+
 pub check_view-requires-clause-options : goal.check_view-requires-clause-options
-check_view-requires-clause-options c = c.requires.is_view.options
+check_view-requires-clause-options c = options_of c.args.view.now.version c.args.view.now.options c.requires.is_view.options
 
 pub check_view-requires-clause-lines : goal.check_view-requires-clause-lines
 check_view-requires-clause-lines c = view_lines c.args.text.now c.args.view.now c.requires

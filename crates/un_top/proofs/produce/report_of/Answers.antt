@@ -1,5 +1,6 @@
 use Rattle.un_commands.specs.Alloc.{model_options}
-use Rattle.un_isa.specs.Hexagon.{HEXAGON}
+use Rattle.un_isa.specs.Versions.{table_of}
+use Rattle.un_isa.specs.declared.table.TheConstants.{LAST}
 use Rattle.un_top.proofs.SearchLaws.{report_is, report_for}
 use Rattle.un_top.proofs.produce.report_of.Goals as goal
 
@@ -8,6 +9,6 @@ returns-clause-report c =
     let m = c.in_ok-model.model in
     let out = c.in_ok-output.output in
     let nodes = c.args.options.nodes in
-    report_for c.hexagon.result HEXAGON c.model_options.result (model_options c.args.options) nodes c.args.text.now out.status out.text.items
-    c.hexagon.ensures.table c.model_options.ensures (report_is c.hexagon.result c.args.f.now c.model_options.result m nodes c.args.text.now
+    report_for c.table_of.result (table_of LAST) c.model_options.result (model_options c.args.options) nodes c.args.text.now out.status out.text.items
+    c.table_of.ensures.is c.model_options.ensures (report_is c.table_of.result c.args.f.now c.model_options.result m nodes c.args.text.now
     out.status out.text.items c.requires.read c.in_ok-model.ensures.gives c.in_ok-output.ensures.found)

@@ -23,5 +23,5 @@ returns-clause-search c = λ e.
 pub returns-clause-read : goal.returns-clause-read
 returns-clause-read c = λ count.
     let found = returns-clause-search c c.requires.problem.gives.ext in
-    is_report c.args.f.now c.args.m.now c.args.nodes c.in_ok-report.report c.requires.problem found.chosen found.budget found.sound found.few
+    is_report c.args.f.now c.args.m.now c.args.nodes c.in_ok-report.report c.requires.problem found.versioned found.chosen found.budget found.sound found.few
     c.in_ok-report.ensures.long count

@@ -15,7 +15,7 @@ keeps_frame-requires c =
 
 pub returns : goal.returns
 returns c = record {
-  in_domains = rw (c.as_slice.ensures) at c.keeps_domains.ensures;
+  in_domains = c.keeps_domains.ensures;
   zeros = rw (c.as_slice-issues.ensures, c.as_slice-ranges.ensures) at c.keeps_zeros.ensures;
   choices = rw (c.as_slice-reads.ensures, c.as_slice-ranges.ensures) at c.keeps_choices.ensures;
   spaces = rw (c.as_slice-reads.ensures, c.as_slice-ranges.ensures) at c.keeps_spaces.ensures;

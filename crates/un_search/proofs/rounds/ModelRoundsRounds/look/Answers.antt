@@ -2,7 +2,7 @@ use Rattle.std.proofs.Common.{sym, subst}
 use Rattle.un_domains.specs.Cuts.{Contents}
 use Rattle.un_domains.specs.Sets.{IsSingle, NoneEmpty}
 use Rattle.un_tree.specs.Searched.{HasTwo}
-use Rattle.un_search.specs.ModelLaws.{posted_inside}
+use Rattle.un_certificate.specs.ModelLaws.{posted_inside}
 use Rattle.un_search.proofs.RoundLemmas.{found_look, open_look}
 use Rattle.un_search.proofs.rounds.ModelRoundsRounds.look.Goals as goal
 
