@@ -1,9 +1,12 @@
 #!/usr/bin/env python3
-"""Functions to measure on, written as files NAME.uni into a folder: functions.py FOLDER. Kernels written by hand stand in `kernels`.
+"""Functions to measure on, written as files NAME.uni into a folder: functions.py FOLDER [large]. Kernels written by hand stand in `kernels`.
 
 - `gen-S-Z`: functions drawn by a linear generator from seed S (0 to 9), with Z blocks (1, 2, 3, 4, 8 and 16).
 - `made-N-K`: functions of N operations (20 to 80) in one to eight blocks, with up to 40 names, loads, stores and calls, from a fixed seed.
 - `calling-N-K`: the like of 10 to 60 operations in one to six blocks, with up to 24 names and at least one call.
+
+With `large` others in their place: `large-N-B-K` of 80 to 400 operations in B blocks, half of them with calls, and `across-N`, a block in
+which N names cross a call.
 """
 import dataclasses
 import math
@@ -129,6 +132,30 @@ def write(folder):
             file.write(text)
 
 
+LARGE = dataclasses.replace(MADE, seed="lg ", names=[60])
+SIZES = ((80, 4), (80, 16), (160, 1), (160, 16), (160, 32), (250, 16), (400, 1), (400, 16), (400, 64))
+
+
+def across(names):
+    """A function of one block in which so many names cross a call."""
+    made_before = [f"  %n{i} = addi %a, #{i}" for i in range(names)]
+    summed = [f"  %s = add %s, %n{i}" for i in range(names)]
+    return "\n".join(["func across %a %b", "block b0 freq 1", *made_before, "  call g %b", "  %s = imm #0", *summed, "  ret %s", ""])
+
+
+def write_large(folder):
+    """Writes the larger ones."""
+    os.makedirs(folder, exist_ok=True)
+    texts = {f"across-{names}": across(names) for names in (40, 60, 80, 90, 100, 110)}
+    for ops, blocks in SIZES:
+        for number in range(4):
+            mix = dataclasses.replace(LARGE, blocks=[blocks], calls=[0.06 * (number % 2)])
+            texts[f"large-{ops}-{blocks}-{number}"] = made(ops, number, mix)
+    for name, text in texts.items():
+        with open(f"{folder}/{name}.uni", "w", encoding="utf-8") as file:
+            file.write(text)
+
+
 def read(folders):
     """The functions of folders, the examples, the kernels and those above where none is named: the group, the name and the text of each."""
     if not folders:
@@ -148,4 +175,4 @@ def mean(ratios):
 
 
 if __name__ == "__main__":
-    write(sys.argv[1])
+    (write_large if sys.argv[2:] == ["large"] else write)(sys.argv[1])

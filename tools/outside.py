@@ -1,11 +1,13 @@
 #!/usr/bin/env python3
-"""Runs printed code outside of this project: outside.py [FILE ..] has LLVM assemble and link it and an emulator run it.
+"""Runs printed code outside of this project: outside.py [--c] [FILE ..] has LLVM assemble and link it and an emulator run it.
 
 Of each FILE.uni (without files: the examples and kernels) the report's assembly goes through llvm-mc, which is to say nothing,
 is linked with a start-up that sets the registers and with stubs that give the replies of calls, and is run by qemu-hexagon from starts that
 are made here. Result, memory, kept registers and calls are compared with what `unison run` says of the source.
+With --c each FILE.c (without files: bench/imported) is compiled for Hexagon by clang too: the function that `bridge import` makes of LLVM's
+text for it is run on the same starts as the object that clang makes, and so is its assembly.
 
-On Debian: apt-get install llvm lld qemu-user
+On Debian: apt-get install clang llvm lld qemu-user
 """
 import glob
 import os
@@ -60,6 +62,12 @@ class Start:
         for _ in range(40 if calls else 0):
             change = [(MEMORY + 4 * draw.randrange(WORDS), any_word())] if draw.randrange(2) else []
             self.replies.append((any_word(), change))
+
+    def extend(self, parameters):
+        """Fills registers of parameters of fewer bits, as LLVM's function expects them."""
+        for r, (bits, is_signed) in enumerate(parameters[:6]):
+            low = self.registers[r] & ((1 << bits) - 1)
+            self.registers[r] = (low - (1 << bits)) & 0xFFFFFFFF if is_signed and low >> (bits - 1) else low
 
     def text(self):
         lines = [f"reg {r} {n}" for r, n in enumerate(self.registers)]
@@ -134,18 +142,72 @@ LINKED = f"""SECTIONS {{
 """
 
 
+# What clang calls for loops that copy or fill memory, and for divisions.
+BESIDE = """
+void *memmove(void *to, const void *from, unsigned n) {
+  volatile char *t = to;
+  const char *f = from;
+  if (t < f) for (unsigned k = 0; k < n; k++) t[k] = f[k];
+  else while (n--) t[n] = f[n];
+  return to;
+}
+void *memcpy(void *to, const void *from, unsigned n) { return memmove(to, from, n); }
+void *__hexagon_memcpy_likely_aligned_min32bytes_mult8bytes(void *to, const void *from, unsigned n) {
+  return memmove(to, from, n);
+}
+void *memset(void *to, int byte, unsigned n) {
+  volatile char *t = to;
+  while (n--) t[n] = byte;
+  return to;
+}
+unsigned __hexagon_umodsi3(unsigned n, unsigned by) {
+  unsigned rest = 0;
+  for (int k = 31; k >= 0; k--) {
+    rest = rest << 1 | (n >> k & 1);
+    if (rest >= by) rest -= by;
+  }
+  return rest;
+}
+unsigned __hexagon_udivsi3(unsigned n, unsigned by) {
+  unsigned quotient = 0, rest = 0;
+  for (int k = 31; k >= 0; k--) {
+    rest = rest << 1 | (n >> k & 1);
+    if (rest >= by) rest -= by, quotient |= 1u << k;
+  }
+  return quotient;
+}
+int __hexagon_modsi3(int n, int by) {
+  unsigned rest = __hexagon_umodsi3(n < 0 ? 0u - n : n, by < 0 ? 0u - by : by);
+  return n < 0 ? 0u - rest : rest;
+}
+int __hexagon_divsi3(int n, int by) {
+  unsigned quotient = __hexagon_udivsi3(n < 0 ? 0u - n : n, by < 0 ? 0u - by : by);
+  return (n < 0) != (by < 0) ? 0u - quotient : quotient;
+}
+"""
+
+
 class Outside:
     """The tools of other projects, and a folder to work in."""
 
-    def __init__(self, folder):
+    def __init__(self, folder, with_c):
         self.folder = folder
         self.assembler = tool("llvm-mc", "llvm")
         self.linker = tool("ld.lld", "lld")
         self.emulator = tool("qemu-hexagon", "qemu-user")
+        self.compiler = tool("clang", "clang") if with_c else None
         self.unison = program("unison")
         self.bridge = program("bridge")
         with open(f"{folder}/script", "w", encoding="utf-8") as script:
             script.write(LINKED)
+        self.beside = [self.compiled(BESIDE)] if with_c else []
+
+    def compiled(self, source):
+        """The object of functions that code of clang's calls where the source has no call."""
+        made = f"{self.folder}/beside.o"
+        words = [self.compiler, "-target", "hexagon", "-mv5", "-O1", "-ffreestanding", "-fno-builtin", "-x", "c", "-c", "-", "-o", made]
+        subprocess.run(words, input=source, text=True, check=True)
+        return made
 
     def assemble(self, text, name):
         """The object of assembly, and what the assembler says."""
@@ -161,7 +223,7 @@ class Outside:
         if said:
             return said
         whole = f"{self.folder}/whole"
-        run = subprocess.run([self.linker, "-T", f"{self.folder}/script", "-o", whole, begun, made], capture_output=True, text=True)
+        run = subprocess.run([self.linker, "-T", f"{self.folder}/script", "-o", whole, begun, made, *self.beside], capture_output=True, text=True)
         if run.returncode:
             return run.stderr
         run = subprocess.run([self.emulator, whole], capture_output=True, timeout=60)
@@ -196,7 +258,7 @@ class Count:
     """Sums over functions."""
 
     def __init__(self):
-        self.functions = self.packets = self.messages = self.runs = self.equal = self.lacking = 0
+        self.functions = self.packets = self.messages = self.runs = self.equal = self.refused = self.lacking = 0
 
     def note(self, name, said):
         self.runs += 1
@@ -209,12 +271,23 @@ def name_of(source):
     return re.search(r"^\s*func (\S+)", source, re.M).group(1)
 
 
-def starts_of(outside, source):
+def parameters_of(text):
+    """How many bits the parameters of the first function in LLVM's text have, and whether they fill their registers with a sign."""
+    listed = re.search(r"^define [^@]*@[^(]*\((.*)\)[^()]*\{", text, re.M).group(1)
+    found = []
+    for parameter in listed.split(", "):
+        width = re.match(r"i(\d+)\b(?!\*)", parameter)
+        found.append((int(width.group(1)) if width else 32, "signext" in parameter))
+    return found
+
+
+def starts_of(outside, source, parameters=()):
     """Starts from which a function returns, with what it comes to."""
     calls = " call " in source
     found = []
     for seed in range(TRIED):
         start = Start(f"{name_of(source)} {seed}", calls)
+        start.extend(parameters)
         outcome = source_outcome(outside.unison, source, start)
         if outcome:
             found.append((start, outcome))
@@ -246,33 +319,62 @@ def callees_of(source):
     return sorted({f"stub.{f}" for f in re.findall(r"\bcall ([A-Za-z_][\w.]*)", source)})
 
 
-def try_source(outside, name, source, count):
-    """Runs the code of a function."""
+def try_source(outside, name, source, count, parameters=()):
+    """Runs the code of a function; answers its starts with their outcomes."""
     count.functions += 1
     made = object_of(outside, name, source, count)
-    found = starts_of(outside, source)
+    found = starts_of(outside, source, parameters)
     if not found:
         print(f"{name}: it returns from no start that was tried")
     if made:
         for start, wanted in found:
             count.note(name, differs(wanted, outside.outcome(made, name_of(source), callees_of(source), start)))
+    return found
+
+
+def try_c(outside, path, count, compiled):
+    """Imports what clang makes of a function in C, and runs both."""
+    name = os.path.basename(path)[:-2]
+    flags = [outside.compiler, "-target", "hexagon", "-mv5", "-O2", "-fno-unroll-loops", "-fno-jump-tables"]
+    text = subprocess.run(flags + ["-S", "-emit-llvm", "-o", "-", path], capture_output=True, text=True, check=True).stdout
+    run = subprocess.run([outside.bridge, "import"], input=text, capture_output=True, text=True)
+    if run.returncode:
+        count.refused += 1
+        print(f"{name}: {run.stderr.splitlines()[0]}")
+        return
+    callees = callees_of(run.stdout)
+    compiled_text = subprocess.run(flags + ["-S", "-o", "-", path], capture_output=True, text=True, check=True).stdout
+    for callee in callees:
+        compiled_text = re.sub(rf"\b(call|jump) {re.escape(callee[5:])}\b", rf"\1 {callee}", compiled_text)
+    made = outside.assemble(compiled_text, "compiled")[0]
+    for start, wanted in try_source(outside, name, run.stdout, count, parameters_of(text)):
+        got = outside.outcome(made, name_of(run.stdout), callees, start)
+        compiled.note(f"{name}, as clang compiles it", differs(wanted, got))
 
 
 def main():
-    files = sys.argv[1:]
+    words = sys.argv[1:]
+    with_c = words[:1] == ["--c"]
+    files = words[with_c:]
     if not files:
-        files = sorted(glob.glob(f"{TOP}/examples/*.uni")) + sorted(glob.glob(f"{TOP}/kernels/*.uni"))
+        folders = ["bench/imported/*.c"] if with_c else ["examples/*.uni", "kernels/*.uni"]
+        files = [path for folder in folders for path in sorted(glob.glob(f"{TOP}/{folder}"))]
         # (two of the examples have a fault)
         files = [path for path in files if os.path.basename(path) not in ("loop.uni", "wide.uni")]
-    count = Count()
+    count, compiled = Count(), Count()
     with tempfile.TemporaryDirectory() as folder:
-        outside = Outside(folder)
+        outside = Outside(folder, with_c)
         for path in files:
-            with open(path, encoding="utf-8") as source:
-                try_source(outside, os.path.basename(path), source.read(), count)
+            if with_c:
+                try_c(outside, path, count, compiled)
+            else:
+                with open(path, encoding="utf-8") as source:
+                    try_source(outside, os.path.basename(path), source.read(), count)
     print(f"functions {count.functions}, packets {count.packets}, messages of the assembler {count.messages}, "
           f"runs {count.runs}, equal {count.equal}")
-    sys.exit(0 if count.runs == count.equal and not count.messages else 1)
+    if with_c:
+        print(f"refused {count.refused}, without code {count.lacking}, runs of what clang compiles {compiled.runs}, equal {compiled.equal}")
+    sys.exit(0 if count.runs == count.equal and compiled.runs == compiled.equal and not count.messages else 1)
 
 
 if __name__ == "__main__":
