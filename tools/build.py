@@ -2,19 +2,19 @@
 """Proves and builds a program of this repository on all processors: build.py PROGRAM.
 
 `rt` works on one crate of a checkout at a time, and takes what other checkouts on the machine have proved of the same files. So each
-processor gets a copy of the crates under a folder of its own, beside the checkout, and the crates below the program are proved lowest first,
-several side by side; at the end the program itself is proved and linked in the checkout. Lines of progress go to standard error.
+processor gets a copy of the crates under a folder of its own, beside the checkout, and the crates below the program are proved lowest
+first, several side by side; at the end the program itself is proved and linked in the checkout. Lines of progress go to standard error.
 """
 import concurrent.futures
 import functools
+import glob
 import os
-import shutil
-import signal
 import subprocess
 import sys
 import tempfile
 import time
 
+import children
 import unproved
 
 TOP = os.path.dirname(os.path.dirname(os.path.realpath(__file__)))
@@ -65,62 +65,61 @@ def copy_of(room, number):
     """A copy of the crates, without what was made of them."""
     folder = f"{room}/{number}"
     os.makedirs(folder)
-    shutil.copytree(f"{TOP}/crates", f"{folder}/crates", ignore=shutil.ignore_patterns("out"))
-    for file in ("crates.txt", "HANDLES"):
-        shutil.copy(f"{TOP}/{file}", folder)
+    parts = [it for it in glob.glob("crates/*/*", root_dir=TOP) if os.path.basename(it) != "out"]
+    # (a tenth of the time of shutil's copies)
+    subprocess.run(["cp", "-r", "--parents", "-t", folder, "crates.txt", "HANDLES", *parts], cwd=TOP, check=True)
     return folder
 
 
-def prove(folder, name, started):
+def prove(running, folder, name):
     """Proves a library in a copy. Answers what rt printed where it is not proved, else nothing."""
-    # (a session of its own, so that all that it starts can be ended with it)
-    with subprocess.Popen(["rt", "lib", "--jobs", "1"], cwd=f"{folder}/crates/{name}", stdin=subprocess.DEVNULL,
-                          stdout=subprocess.PIPE, stderr=subprocess.STDOUT, text=True, start_new_session=True) as running:
-        started.add(running)
-        printed = running.communicate()[0]
-        started.discard(running)
-    return printed if running.returncode else None
+    how = {"stdout": subprocess.PIPE, "stderr": subprocess.STDOUT, "text": True}
+    it = running.start(["rt", "lib", "--jobs", "1"], cwd=f"{folder}/crates/{name}", **how)
+    printed = running.wait_for(it)
+    return printed if it.returncode else None
 
 
-def end_all(started):
-    """Ends what still runs of what was started."""
-    for running in list(started):
-        if running.poll() is None:
-            os.killpg(running.pid, signal.SIGKILL)
+def prove_all(crates, wanted, free, pool, running):
+    """Proves libraries in free copies, and answers whether all are proved."""
+    done, asked, start = set(), {}, time.time()
+    while len(done) < len(wanted):
+        begun = done | {name for name, _ in asked.values()}
+        ready = sorted((it for it in wanted - begun if crates.are_done(it, done)), key=crates.chain, reverse=True)
+        for name in ready[: len(free)]:
+            folder = free.pop()
+            asked[pool.submit(prove, running, folder, name)] = (name, folder)
+        for it in concurrent.futures.wait(asked, return_when=concurrent.futures.FIRST_COMPLETED)[0]:
+            name, folder = asked.pop(it)
+            free.append(folder)
+            if it.result() is not None:
+                print(it.result(), file=sys.stderr)
+                say(f"{name} was not proved")
+                return False
+            done.add(name)
+            minutes, seconds = divmod(int(time.time() - start), 60)
+            say(f"{len(done)} of {len(wanted) + 1} crates proved, {minutes} min {seconds} s")
+    return True
 
 
 def prove_below(crates, program, room):
     """Proves the libraries below a program, and answers whether all are proved."""
-    wanted = crates.below(program)
     free = [copy_of(room, number) for number in range(os.cpu_count() or 1)]
-    done, running, started, start = set(), {}, set(), time.time()
-    with concurrent.futures.ThreadPoolExecutor(len(free)) as pool:
-        try:
-            while len(done) < len(wanted):
-                begun = done | {name for name, _ in running.values()}
-                ready = sorted((it for it in wanted - begun if crates.are_done(it, done)), key=crates.chain, reverse=True)
-                for name in ready[: len(free)]:
-                    folder = free.pop()
-                    running[pool.submit(prove, folder, name, started)] = (name, folder)
-                for it in concurrent.futures.wait(running, return_when=concurrent.futures.FIRST_COMPLETED)[0]:
-                    name, folder = running.pop(it)
-                    free.append(folder)
-                    if it.result() is not None:
-                        print(it.result(), file=sys.stderr)
-                        say(f"{name} was not proved")
-                        return False
-                    done.add(name)
-                    minutes, seconds = divmod(int(time.time() - start), 60)
-                    say(f"{len(done)} of {len(wanted) + 1} crates proved, {minutes} min {seconds} s")
-        finally:
-            end_all(started)
-    return True
+    # (what runs is ended before the threads that wait for it are joined)
+    with concurrent.futures.ThreadPoolExecutor(len(free)) as pool, children.Children() as running:
+        return prove_all(crates, crates.below(program), free, pool, running)
+
+
+def link(program):
+    """Proves and links the program itself, in the checkout."""
+    with children.Children() as running:
+        how = {"stdout": subprocess.DEVNULL, "stderr": subprocess.DEVNULL}
+        running.wait_for(running.start(["rt", "run"], cwd=f"{TOP}/crates/{program}", **how))
 
 
 def main():
     crates = Crates()
     program = sys.argv[1] if len(sys.argv) == 2 else ""
-    signal.signal(signal.SIGTERM, signal.default_int_handler)
+    children.end_on_signals()
     if not os.path.isfile(f"{TOP}/crates/{program}/src/main.rt"):
         sys.exit("usage: tools/build.py PROGRAM")
     room = tempfile.mkdtemp(prefix="unison-build-", dir=os.path.dirname(TOP))
@@ -129,13 +128,12 @@ def main():
         if not prove_below(crates, program, room):
             sys.exit(1)
         say(f"proving and linking {program}")
-        subprocess.run(["rt", "run"], cwd=f"{TOP}/crates/{program}", stdin=subprocess.DEVNULL, stdout=subprocess.DEVNULL,
-                       stderr=subprocess.DEVNULL, check=False)
-    except KeyboardInterrupt:
+        link(program)
+    except children.Interrupted:
         say(f"interrupted: {program} is not built")
-        sys.exit(130)
+        raise
     finally:
-        shutil.rmtree(room, ignore_errors=True)
+        children.remove(room)
     if not os.path.isfile(f"{TOP}/crates/{program}/out/{program}"):
         say(f"{program} was not built: `rt run` in crates/{program} says why")
         sys.exit(1)
