@@ -1,5 +1,5 @@
 #!/usr/bin/env python3
-"""Functions to measure on, written as files NAME.uni into a folder: functions.py FOLDER [large]. Kernels written by hand stand in `kernels`.
+"""Functions to measure on, written as files NAME.uni into a folder: functions.py FOLDER [large]. Kernels written by hand are in `kernels`.
 
 - `gen-S-Z`: functions drawn by a linear generator from seed S (0 to 9), with Z blocks (1, 2, 3, 4, 8 and 16).
 - `made-N-K`: functions of N operations (20 to 80) in one to eight blocks, with up to 40 names, loads, stores and calls, from a fixed seed.

@@ -2,9 +2,9 @@
 """How `alloc` and `check` grow: larger.py [--write FOLDER | PROGRAM [NAME..]].
 
 Functions of 80, 200 and 400 operations in 1, 16 and 64 blocks, with calls and without, some of one pattern and some drawn, blocks in which
-80, 90 and 110 names cross a call, and a block of 80 calls with six arguments each. For each it prints, of the program (an unproved one where
-none is named), the cost with 3 nodes and with 2,000, the bound, and seconds of the processor and megabytes at most: `alloc` with 3 nodes,
-with 2,000, and `check` of the latter's report. --write writes the functions into a folder. The gate does not run it.
+80, 90 and 110 names cross a call, and a block of 80 calls with six arguments each. For each it prints, of the program (an unproved one
+where none is named), the cost with 3 nodes and with 2,000, the bound, and seconds of the processor and megabytes at most: `alloc` with 3
+nodes, with 2,000, and `check` of the latter's report. --write writes the functions into a folder. The gate does not run it.
 """
 import dataclasses
 import os
@@ -21,7 +21,8 @@ DRAWN = functions.Mix("larger ", [1], [0], [110], [1, 10, 100, 1000], 12, 0.2, 0
 
 def pattern(operations, blocks, calls):
     """A fifth calls, or none; each block between the first and the last branches back to itself."""
-    kinds = ["%a = call h %a, %b" if calls else "%a = xor %a, %b", "%c{0} = add %a, %b", "%b = load %b, #{1}", "store %a, #{1}, %b", "$p = cmpgt %b, %a"]
+    first = "%a = call h %a, %b" if calls else "%a = xor %a, %b"
+    kinds = [first, "%c{0} = add %a, %b", "%b = load %b, #{1}", "store %a, #{1}, %b", "$p = cmpgt %b, %a"]
     lines, last = ["func f %a %b"], -1
     for place in range(operations):
         block = place * blocks // operations
@@ -59,10 +60,9 @@ def texts():
 
 def run(words, text):
     """What a run prints, how many seconds of the processor it took, and how many megabytes at most."""
-    child = subprocess.Popen(["/usr/bin/env", "python3", "-c", MEASURE, *words], stdin=subprocess.PIPE, stdout=subprocess.PIPE, stderr=subprocess.PIPE, text=True)
-    out, err = child.communicate(text)
-    seconds, megabytes = err.split("\n")[-2].split()
-    return out, float(seconds), float(megabytes)
+    child = subprocess.run(["/usr/bin/env", "python3", "-c", MEASURE, *words], input=text, capture_output=True, text=True, check=False)
+    seconds, megabytes = child.stderr.split("\n")[-2].split()
+    return child.stdout, float(seconds), float(megabytes)
 
 
 # What a child runs: a program of its own, so that its peak is not that of another run.
@@ -79,6 +79,11 @@ def number(field, report):
     return int(found[1]) if found else -1
 
 
+def unproved():
+    """The program, compiled without a proof."""
+    return subprocess.run([f"{TOP}/tools/unproved.py", "unison"], stdout=subprocess.PIPE, text=True, check=True).stdout.strip()
+
+
 def main():
     if sys.argv[1:2] == ["--write"]:
         os.makedirs(sys.argv[2], exist_ok=True)
@@ -86,8 +91,9 @@ def main():
             with open(f"{sys.argv[2]}/{name}.uni", "w", encoding="utf-8") as file:
                 file.write(text)
         return
-    program = sys.argv[1] if len(sys.argv) > 1 else subprocess.run([f"{TOP}/tools/unproved.py", "unison"], capture_output=True, text=True, check=True).stdout.strip()
-    print(f"{'':24} {'first':>9} {'cost':>9} {'bound':>9} {'nodes':>6}  {'s, 3':>7} {'s, 2000':>8} {'s, check':>8} {'MB':>6} {'MB check':>8}")
+    program = sys.argv[1] if len(sys.argv) > 1 else unproved()
+    print(f"{'':24} {'first':>9} {'cost':>9} {'bound':>9} {'nodes':>6}  "
+          f"{'s, 3':>7} {'s, 2000':>8} {'s, check':>8} {'MB':>6} {'MB check':>8}")
     for name, text in texts().items():
         if len(sys.argv) > 2 and name not in sys.argv[2:]:
             continue

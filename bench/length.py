@@ -4,9 +4,9 @@
 Runs `alloc` under valgrind's callgrind on functions (the examples where none is named), and prints for each how many decisions were made,
 how many runs of Length there were for each of them, the rounds from the root with them, thousands of instructions that a run takes for its
 counts over intervals, and their share of all instructions. A run counts each resource of packets in turn until there is no room, so its
-first count is the place in the code from which most counts are asked for. Under callgrind the program takes some fifty times as long. Run it
-by hand; the gate does not run it. UNISON names another program than the built one, in which the compiler may have left no functions of these
-names: `tools/unproved.py unison` prints one that has them.
+first count is the place in the code from which most counts are asked for. Under callgrind the program takes some fifty times as long. Run
+it by hand; the gate does not run it. UNISON names another program than the built one, in which the compiler may have left no functions of
+these names: `tools/unproved.py unison` prints one that has them.
 """
 import glob
 import os

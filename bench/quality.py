@@ -42,7 +42,8 @@ def main():
         if found is None:
             continue
         slots = report(text, 1)[0]["cost"]
-        print(f"{name:20} cost {found['cost']:>9} bound {found['bound']:>9} slots {slots:>9} nodes {found['tree']:>6} ms {took:8.1f}", flush=True)
+        print(f"{name:20} cost {found['cost']:>9} bound {found['bound']:>9} slots {slots:>9} "
+              f"nodes {found['tree']:>6} ms {took:8.1f}", flush=True)
         groups.setdefault(group, []).append((found["cost"] / found["bound"], found["cost"] / slots, took))
     for group, rows in groups.items():
         told(group, rows)

@@ -1,9 +1,9 @@
 #!/usr/bin/env python3
 """Alters reports and asks `check` what it says of them: altered.py [COUNT] [SEED].
 
-Reports of the examples and of generated functions are altered by a fixed seed: a number or a node of the tree is changed, a line is dropped, doubled or
-swapped with another, or two reports are crossed. `check` must answer each with 0, 8 or 9 and never crash. What is answered yes is listed by kind.
-It needs the built program (`./unison build`).
+Reports of the examples and of generated functions are altered by a fixed seed: a number or a node of the tree is changed, a line is
+dropped, doubled or swapped with another, or two reports are crossed. `check` must answer each with 0, 8 or 9 and never crash. What is
+answered yes is listed by kind. It needs the built program (`./unison build`).
 """
 import collections
 import concurrent.futures

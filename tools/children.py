@@ -8,7 +8,6 @@ import os
 import signal
 import subprocess
 import threading
-import time
 
 SIGNALS = (signal.SIGTERM, signal.SIGINT, signal.SIGHUP)
 
@@ -79,9 +78,11 @@ def end(running):
 
 
 def remove(folder):
-    """Removes a folder. What was ended just now may still write into it: a few tries."""
-    for _ in range(20):
-        subprocess.run(["rm", "-rf", folder], stderr=subprocess.DEVNULL, check=False)
-        if not os.path.exists(folder):
-            return
-        time.sleep(0.1)
+    """Removes a folder. What was ended just now may still write into it: a few tries, which go on by themselves where they take long."""
+    tries = 'for it in 1 2 3 4 5; do rm -rf "$1" && exit; sleep 0.2; done'
+    how = {"stdin": subprocess.DEVNULL, "stdout": subprocess.DEVNULL, "stderr": subprocess.DEVNULL}
+    removing = subprocess.Popen(["sh", "-c", tries, "", folder], start_new_session=True, **how)
+    try:
+        removing.wait(5)
+    except subprocess.TimeoutExpired:
+        pass

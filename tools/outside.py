@@ -223,7 +223,8 @@ class Outside:
         if said:
             return said
         whole = f"{self.folder}/whole"
-        run = subprocess.run([self.linker, "-T", f"{self.folder}/script", "-o", whole, begun, made, *self.beside], capture_output=True, text=True)
+        linking = [self.linker, "-T", f"{self.folder}/script", "-o", whole, begun, made, *self.beside]
+        run = subprocess.run(linking, capture_output=True, text=True)
         if run.returncode:
             return run.stderr
         run = subprocess.run([self.emulator, whole], capture_output=True, timeout=60)
