@@ -23,11 +23,13 @@ use Rattle.un_model.specs.declared.schedule.LiveRange.{LiveRange}
 use Rattle.un_model.specs.declared.schedule.Schedule.{Schedule}
 use Rattle.un_model.specs.Congruences.{is_live_out, live_out_reads, register_of, register_read, HandsOver, HandsOn, KeepsCongruences}
 use Rattle.un_model.specs.Solutions.{Distance, Precedes, Gap, IsIdleAtZero, IsZeroRange, KeepsZeros, IsLive, KeepsChoices, ReadsInSpace}
-use Rattle.un_model.specs.Solutions.{IsGivenInSpace, KeepsSpaces, IsPlacedAs, IsPlaced, IsLast, LeavesGap, KeepsLatencies, after_write, after_load}
+use Rattle.un_model.specs.Solutions.{IsGivenInSpace, KeepsSpaces, IsPlacedAs, IsPlaced, IsLast, LeavesGap, KeepsLatencies, after_write}
+use Rattle.un_model.specs.Solutions.{after_load}
 use Rattle.un_model.specs.Solutions.{memory_distance, KeepsMemory, ShareNoCycle, SparesRange, IsSpared, KeepsRegisters}
 use Rattle.un_model.specs.Solutions.{issues_at, share_of, Fits, HasRoom, KeepsPackets, ReadsHome, KeepsHomes, uses_frame}
 use Rattle.un_model.specs.Solutions.{is_frame_access, starts_in_slot, after_enter, before_leave, frame_distance, HasFrame, KeepsFrame}
-use Rattle.un_model.proofs.Lists.{Each, Pairwise, Member, each_member, each_all, each_of, each_map, pairwise_all, pairwise_map, pairwise_more}
+use Rattle.un_model.proofs.Lists.{Each, Pairwise, Member, each_member, each_all, each_of, each_map, pairwise_all, pairwise_map}
+use Rattle.un_model.proofs.Lists.{pairwise_more}
 use Rattle.un_model.proofs.Lists.{slice_get-map, member_at}
 use Rattle.un_compact.specs.Squeezes.{squeezed}
 use Rattle.un_compact.proofs.Squeezing.{rises, no_more, before_later, enough}
@@ -148,7 +150,8 @@ module _ (used : ℕ → ℕ → Bool) (start : (b : ℕ) → used b 0 ≡ true)
     live (Some x) h = h
 
     pub choices : KeepsChoices t → KeepsChoices (move t)
-    choices h = mapped (λ (r : Read). IsLive (slice_get t.ranges r.temp.0)) (λ (r : Read). IsLive (slice_get (map move_range t.ranges) r.temp.0))
+    choices h = mapped (λ (r : Read). IsLive (slice_get t.ranges r.temp.0))
+        (λ (r : Read). IsLive (slice_get (map move_range t.ranges) r.temp.0))
         move_read t.reads (λ r m k. at_range IsLive r.temp.0 (live (slice_get t.ranges r.temp.0) k)) h
 
     in_space : (r : Read) (o : Option LiveRange) → ReadsInSpace r o → ReadsInSpace (move_read r) (option_map move_range o)
@@ -157,7 +160,8 @@ module _ (used : ℕ → ℕ → Bool) (start : (b : ℕ) → used b 0 ≡ true)
 
     pub spaces : KeepsSpaces t → KeepsSpaces (move t)
     spaces h = (
-      mapped (λ (r : Read). ReadsInSpace r (slice_get t.ranges r.temp.0)) (λ (r : Read). ReadsInSpace r (slice_get (map move_range t.ranges) r.temp.0))
+      mapped (λ (r : Read). ReadsInSpace r (slice_get t.ranges r.temp.0))
+          (λ (r : Read). ReadsInSpace r (slice_get (map move_range t.ranges) r.temp.0))
           move_read t.reads (λ r m k. at_range (ReadsInSpace (move_read r)) r.temp.0 (in_space r (slice_get t.ranges r.temp.0) k)) h.0,
       mapped IsGivenInSpace IsGivenInSpace move_range t.ranges (λ i m k. k) h.1,
     )
@@ -192,7 +196,8 @@ module _ (used : ℕ → ℕ → Bool) (start : (b : ℕ) → used b 0 ≡ true)
     latencies gap short h = (
       mapped IsPlaced IsPlaced move_issue t.issues
           (λ i m k. let u = known.issues i m in placed_by i.block.0 i.cycle i.end i.instr u.0 k) h.0,
-      mapped (λ (r : Read). LeavesGap gap r (slice_get t.ranges r.temp.0)) (λ (r : Read). LeavesGap gap r (slice_get (map move_range t.ranges) r.temp.0))
+      mapped (λ (r : Read). LeavesGap gap r (slice_get t.ranges r.temp.0))
+          (λ (r : Read). LeavesGap gap r (slice_get (map move_range t.ranges) r.temp.0))
           move_read t.reads
           (λ r m k. at_range (LeavesGap gap (move_read r)) r.temp.0 (ready gap short r m (slice_get t.ranges r.temp.0) refl k)) h.1,
     )
@@ -256,7 +261,8 @@ module _ (used : ℕ → ℕ → Bool) (start : (b : ℕ) → used b 0 ≡ true)
         let fi : place i.block.0 i.cycle ≡ place h.block.0 i.cycle = ap (λ k. place k i.cycle) same in
         let o0 = occ.0 in let o1 = occ.1 in
         s call act same mask (
-          ⊎_elim (λ (lt : i.cycle < h.from). let e = before_later (used h.block.0) i.cycle h.from vi lt in absurd (omega (arith, e, o0, fi)))
+          ⊎_elim (λ (lt : i.cycle < h.from). let e = before_later (used h.block.0) i.cycle h.from vi lt in
+              absurd (omega (arith, e, o0, fi)))
               (λ (le : h.from ≤ i.cycle). le) (cases_lt i.cycle h.from),
           ⊎_elim (λ (lt : h.last < i.cycle). let e = earlier (used h.block.0) h.from h.last i.cycle uh.0 uh.1 lt in
               absurd (omega (arith, e, o1, fi))) (λ (le : i.cycle ≤ h.last). le) (cases_lt h.last i.cycle),
@@ -342,11 +348,17 @@ module _ (used : ℕ → ℕ → Bool) (start : (b : ℕ) → used b 0 ≡ true)
               → (sum_by (load b x) (map move_issue (i ∷ is)) ≡ 0) ⊎ ((c : ℕ) × (used b c ≡ true) × (place b c ≡ x))
           by true true e f r =
               let q = eqb-true i.block.0 b e in
-              inr (i.cycle, subst (λ k. used k i.cycle ≡ true) q h.0, ap (λ k. place k i.cycle) (sym q) ∙ eqb-true (place i.block.0 i.cycle) x f)
+              inr (
+                i.cycle,
+                subst (λ k. used k i.cycle ≡ true) q h.0,
+                ap (λ k. place k i.cycle) (sym q)
+                    ∙ eqb-true (place i.block.0 i.cycle) x f,
+              )
           by k l e f (inr r) = inr r
           by false l e f (inl r) = inl (sum_by-cons (load b x) (move_issue i) (map move_issue is) ∙ ap (λ n. load b x (move_issue i) + n) r
               ∙ ap (λ z. (if (z && eqb (place i.block.0 i.cycle) x) then share_of table resource i.instr else 0) + 0) e)
-          by true false e f (inl r) = inl (sum_by-cons (load b x) (move_issue i) (map move_issue is) ∙ ap (λ n. load b x (move_issue i) + n) r
+          by true false e f (inl r) =
+              inl (sum_by-cons (load b x) (move_issue i) (map move_issue is) ∙ ap (λ n. load b x (move_issue i) + n) r
               ∙ ap (λ z. (if (z && eqb (place i.block.0 i.cycle) x) then share_of table resource i.instr else 0) + 0) e
               ∙ ap (λ z. (if (true && z) then share_of table resource i.instr else 0) + 0) f)
 
@@ -370,10 +382,12 @@ module _ (used : ℕ → ℕ → Bool) (start : (b : ℕ) → used b 0 ≡ true)
     at_home r (Some x) h = h
 
     pub homes : KeepsHomes t → KeepsHomes (move t)
-    homes h = mapped (λ (r : Read). ReadsHome r (slice_get t.ranges r.temp.0)) (λ (r : Read). ReadsHome r (slice_get (map move_range t.ranges) r.temp.0))
+    homes h = mapped (λ (r : Read). ReadsHome r (slice_get t.ranges r.temp.0))
+        (λ (r : Read). ReadsHome r (slice_get (map move_range t.ranges) r.temp.0))
         move_read t.reads (λ r m k. at_range (ReadsHome (move_read r)) r.temp.0 (at_home r (slice_get t.ranges r.temp.0) k)) h
 
-    reg_map : (o : Option LiveRange) → option_map (λ (h : LiveRange). h.reg) (option_map move_range o) ≡ option_map (λ (h : LiveRange). h.reg) o
+    reg_map : (o : Option LiveRange) → option_map (λ (h : LiveRange). h.reg) (option_map move_range o)
+        ≡ option_map (λ (h : LiveRange). h.reg) o
     reg_map None = refl
     reg_map (Some h) = refl
 
@@ -416,7 +430,8 @@ module _ (used : ℕ → ℕ → Bool) (start : (b : ℕ) → used b 0 ≡ true)
 
     frame_same : uses_frame (move t) ≡ uses_frame t
     frame_same =
-        ap (λ b. b || list_any starts_in_slot (map move_range t.ranges)) (any_map (λ (i : Issue). is_frame_access i.instr) move_issue t.issues)
+        ap (λ b. b || list_any starts_in_slot (map move_range t.ranges))
+        (any_map (λ (i : Issue). is_frame_access i.instr) move_issue t.issues)
         ∙ ap (λ b. list_any (λ (i : Issue). is_frame_access i.instr) t.issues || b) (any_map starts_in_slot move_range t.ranges)
 
     pub frame : (flag : ℕ) → KeepsFrame flag t → KeepsFrame flag (move t)

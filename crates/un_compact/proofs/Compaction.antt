@@ -31,9 +31,12 @@ use Rattle.un_model.specs.declared.model.Solution.{Solution}
 use Rattle.un_model.specs.Cost.{value_of, block_cost, blocks_cost, cost_of}
 use Rattle.un_model.specs.Pairs.{places_from}
 use Rattle.un_model.specs.declared.model.TempVars.{TempVars}
-use Rattle.un_model.specs.Schedules.{value_by, cycle_by, read_of, range_by, range_of, choice_of, issues_of, reads_of, last_read, schedule_of}
-use Rattle.un_model.specs.Solutions.{InDomain, KeepsDomains, IsSchedule, IsIdleAtZero, IsPlaced, IsPlacedAs, latency_gap, KeepsFrame, IsSolution}
-use Rattle.un_model.specs.Variables.{IsModel, model_of, domains_of, blocks_domains, own_horizon, has_cycle, count_if, cycle_place, choice_place, register_place}
+use Rattle.un_model.specs.Schedules.{value_by, cycle_by, read_of, range_by, range_of, choice_of, issues_of, reads_of, last_read}
+use Rattle.un_model.specs.Schedules.{schedule_of}
+use Rattle.un_model.specs.Solutions.{InDomain, KeepsDomains, IsSchedule, IsIdleAtZero, IsPlaced, IsPlacedAs, latency_gap, KeepsFrame}
+use Rattle.un_model.specs.Solutions.{IsSolution}
+use Rattle.un_model.specs.Variables.{IsModel, model_of, domains_of, blocks_domains, own_horizon, has_cycle, count_if, cycle_place}
+use Rattle.un_model.specs.Variables.{choice_place, register_place}
 use Rattle.un_model.specs.Variables.{var_count, var_at, var_if, ops_vars, ops_count, blocks_vars, blocks_count, chosen_operands}
 use Rattle.un_model.specs.Variables.{cycle_domain, ops_domains}
 use Rattle.un_model.proofs.Gaps.{gap_short}
@@ -50,9 +53,11 @@ use Rattle.un_compact.specs.Squeezes.{is_used, squeezed}
 use Rattle.un_compact.specs.Compacted.{IsCompactedIn, IsCompacted}
 use Rattle.un_compact.specs.Retimed.{moved_by, compacted}
 use Rattle.un_compact.proofs.Squeezing.{no_more, before_later, neighbours}
-use Rattle.un_compact.proofs.Times.{Owned, owned, stays, moves, value_moved, none_after, cycle_in_use, end_in_use, start_in_use, cycle_is_time}
+use Rattle.un_compact.proofs.Times.{Owned, owned, stays, moves, value_moved, none_after, cycle_in_use, end_in_use, start_in_use}
+use Rattle.un_compact.proofs.Times.{cycle_is_time}
 use Rattle.un_compact.proofs.Times.{end_is_time, or_cases, number_if}
-use Rattle.un_compact.proofs.Clauses.{Facts, move, all_of, all_at, zeros, choices, spaces, latencies, memory, registers, packets, homes, congruences, frame}
+use Rattle.un_compact.proofs.Clauses.{Facts, move, all_of, all_at, zeros, choices, spaces, latencies, memory, registers, packets, homes}
+use Rattle.un_compact.proofs.Clauses.{congruences, frame}
 use Rattle.un_compact.proofs.Moving.{Moves, cycle_in, choice_same, moved}
 use Rattle.un_compact.proofs.Sites.{Stands, stands_left, block_site, op_site, cycle_stands, end_stands, end_in_horizon}
 
@@ -60,7 +65,8 @@ use Rattle.un_compact.proofs.Sites.{Stands, stands_left, block_site, op_site, cy
 
 each_range : (P : VarId → Type 0) (a n : ℕ) → ((k : ℕ) → a ≤ k → k < a + n → P (var_at k)) → Each P (map var_at (range_with_len a n))
 each_range P a zero h = tt
-each_range P a (suc n) h = (h a (omega arith) (omega arith), each_range P (a + 1) n (λ k lo hi. h k (omega (arith, lo)) (omega (arith, hi))))
+each_range P a (suc n) h =
+    (h a (omega arith) (omega arith), each_range P (a + 1) n (λ k lo hi. h k (omega (arith, lo)) (omega (arith, hi))))
 
 abbrev pub no_block : BlockVars
 no_block = record { ops = []; end = record { 0 = 0 } }
@@ -84,7 +90,8 @@ module _ (e : Ext) (o : Options) (old : List ℕ) where
   time_moves vars m k t = value_moved old (blocks_vars 0 e.blocks) k ∙ moves old k (get_or old k 0) (get_or old k 0) 0 e.blocks vars m t
 
   -- all else stays
-  pub rest_stays : (k : ℕ) → ((v : BlockVars) → Member v (blocks_vars 0 e.blocks) → is_time_in v k ≡ false) → get_or new k 0 ≡ get_or old k 0
+  pub rest_stays : (k : ℕ) → ((v : BlockVars) → Member v (blocks_vars 0 e.blocks) → is_time_in v k ≡ false)
+      → get_or new k 0 ≡ get_or old k 0
   rest_stays k h = value_moved old (blocks_vars 0 e.blocks) k ∙ stays old k (get_or old k 0) (get_or old k 0) (blocks_vars 0 e.blocks) h
 
   -- an operation, with the variables of its block
@@ -104,7 +111,8 @@ module _ (e : Ext) (o : Options) (old : List ℕ) where
       let k : p.block ≡ h.place = omega (arith, q) in
       ap (λ n. slice_index_or (blocks_vars 0 e.blocks) n no_block) k ∙ index_get (blocks_vars 0 e.blocks) h.place no_block h.vars h.at
 
-  instr_stays : (p : Placed) → Site p → (b : Bool) → is_optional p.op.kind ≡ b → value_by new (var_if b p.first) ≡ value_by old (var_if b p.first)
+  instr_stays : (p : Placed) → Site p → (b : Bool) → is_optional p.op.kind ≡ b
+      → value_by new (var_if b p.first) ≡ value_by old (var_if b p.first)
   instr_stays p s false q = refl
   instr_stays p s true q =
       let c = ap count_if q in
@@ -135,7 +143,8 @@ module _ (e : Ext) (o : Options) (old : List ℕ) where
         instr = instr_stays p s (is_optional p.op.kind) refl;
         cycle = cycle_moves p s (has_cycle p.op.kind) refl
             ∙ ap (λ (v : BlockVars). squeezed (is_used old v) (value_by old (vars_of p).cycle)) (sym here);
-        cycle_used = ap (λ (v : BlockVars). is_used old v (value_by old (vars_of p).cycle)) here ∙ cycle_in_use old h.vars (vars_of p) h.has;
+        cycle_used = ap (λ (v : BlockVars). is_used old v (value_by old (vars_of p).cycle)) here ∙ cycle_in_use old h.vars (vars_of p)
+            h.has;
         choices = each_range (λ (v : VarId). value_of new v ≡ value_of old v) (p.first + choice_place p.op) (length (chosen_operands p.op))
             (λ k lo hi. choice k lo hi);
         close = subst (λ (c : VarId). value_of new c ≡ squeezed (used p.block) (value_of old c)) h.close
@@ -168,7 +177,8 @@ module _ (e : Ext) (o : Options) (old : List ℕ) where
       omega (arith, t, n)
 
 costs : (new old : List ℕ) (blocks : List ExtBlock) (vars : List BlockVars)
-    → ((v : BlockVars) → Member v vars → value_of new v.end ≤ value_of old v.end) → blocks_cost new blocks vars ≤ blocks_cost old blocks vars
+    → ((v : BlockVars) → Member v vars → value_of new v.end ≤ value_of old v.end)
+    → blocks_cost new blocks vars ≤ blocks_cost old blocks vars
 costs new old [] vars h = omega arith
 costs new old (block ∷ blocks) [] h = omega arith
 costs new old (block ∷ blocks) (v ∷ vars) h =
@@ -233,7 +243,8 @@ module _ (e : Ext) (o : Options) (old : List ℕ) (h : Loosely e o old) where
               → (eqb (value_by old (vars_of p).cycle) 0 && list_all (λ (v : VarId). value_of old v == 0) (vars_of p).choices) ≡ true
               → value_by old (vars_of p).cycle ≡ 0
           first true q f = eqb-true (value_by old (vars_of p).cycle) 0 q
-          first false q f = absurd (cc (sym (ap (λ (b : Bool). b && list_all (λ (v : VarId). value_of old v == 0) (vars_of p).choices) q) ∙ f))
+          first false q f = absurd
+              (cc (sym (ap (λ (b : Bool). b && list_all (λ (v : VarId). value_of old v == 0) (vars_of p).choices) q) ∙ f))
 
       inner : (x : Option Op) → (is_some x ≡ true) ⊎ (value_by old (vars_of p).cycle ≡ 0)
           → IfSome x (IsPlacedAs (value_by old (vars_of p).cycle) (end_of old p))
@@ -242,7 +253,8 @@ module _ (e : Ext) (o : Options) (old : List ℕ) (h : Loosely e o old) where
       inner None (inr z) b = inl z
       inner (Some op) a b = let w = b.0 in inr w.1
 
-      by : (k : ExtKind) → has_cycle k ≡ true → (x : Option Op) → ((is_delimiter k || is_some x) ≡ true) ⊎ (value_by old (vars_of p).cycle ≡ 0)
+      by : (k : ExtKind) → has_cycle k ≡ true → (x : Option Op)
+          → ((is_delimiter k || is_some x) ≡ true) ⊎ (value_by old (vars_of p).cycle ≡ 0)
           → IfSome x (IsPlacedAs (cycle_by old (end_of old p) k (vars_of p)) (end_of old p))
           → (value_by old (vars_of p).cycle ≡ 0) ⊎ (value_by old (vars_of p).cycle < end_of old p)
       by In c x a b = absurd (cc c)
@@ -303,7 +315,8 @@ module _ (e : Ext) (o : Options) (old : List ℕ) (h : Loosely e o old) where
       let r = any_of (λ (o : OpVars). is_number n o.cycle) vars.ops c in
       let own : Member r.0 (ops_vars site.first block.ops) = subst (λ (v : BlockVars). Member r.0 v.ops) (sym site.is) r.1 in
       let op = op_site ds e o site.ie site.b block (var_at (site.first + ops_count block.ops)) site.n site.first block.ops
-      (stands_left ds site.first (ops_domains e o site.ie block (own_horizon block) block.ops) (Range 1 (own_horizon block) ∷ []) site.stands)
+      (stands_left ds site.first (ops_domains e o site.ie block (own_horizon block) block.ops) (Range 1 (own_horizon block) ∷ [])
+      site.stands)
       r.0 own in
       let p = op.op in
       let num = number_if (has_cycle p.op.kind) n (p.first + cycle_place p.op) (ap (λ (v : OpVars). is_number n v.cycle) op.is ∙ r.2) in
@@ -443,7 +456,8 @@ module _ (e : Ext) (o : Options) (old : List ℕ) (h : Loosely e o old) where
       let p = a.p in
       let g = placed_good p a.member in
       let k = g.keeps in
-      let z = zip_get (IsGoodOperand e.names e.blocks g.before) p.op.operands (wants_of e.table e.names e.blocks p.owner p.op.kind p.op) a.j a.x
+      let z = zip_get (IsGoodOperand e.names e.blocks g.before) p.op.operands (wants_of e.table e.names e.blocks p.owner p.op.kind p.op)
+      a.j a.x
       k.operands a.operand in
       let ok = z.2 in
       let y = choice_of old (vars_of p) a.j a.x in
@@ -510,7 +524,8 @@ module _ (e : Ext) (o : Options) (old : List ℕ) (h : Loosely e o old) where
         packets = packets in_use st before facts e.table s.packets;
         homes = homes in_use st before facts s.homes;
         congruences = congruences in_use st before facts e.blocks s.congruences;
-        frame = subst (λ n. KeepsFrame n (move in_use st before)) flag (frame in_use st before facts (value_of old (var_at (blocks_count e.blocks))) s.frame);
+        frame = subst (λ n. KeepsFrame n (move in_use st before)) flag
+            (frame in_use st before facts (value_of old (var_at (blocks_count e.blocks))) s.frame);
       })
 
 -- ---- of any model
@@ -556,14 +571,16 @@ module _ (e : Ext) (o : Options) (s : Solution) where
 pub exactly : (m : Model) → IsModel m → (s : Solution) → IsCompacted m s (compacted m s)
 exactly m own s = subst (λ (n : Model). IsCompacted n s (compacted n s)) (sym own) (exactly_of m.ext m.options s)
 
-pub is_solution : (m : Model) → IsModel m → IsExtended m.ext → IsFit m.ext.table → (s : Solution) → IsLoose m s → IsSolution m (compacted m s)
+pub is_solution : (m : Model) → IsModel m → IsExtended m.ext → IsFit m.ext.table → (s : Solution) → IsLoose m s
+    → IsSolution m (compacted m s)
 is_solution m own extended fit s loose = subst (λ (n : Model). IsSolution n (compacted n s)) (sym own)
     (solution_of m.ext m.options s extended fit (subst (λ (n : Model). IsLoose n s) own loose))
 
 pub costs_no_more : (m : Model) → IsModel m → (s : Solution) → cost_of m (compacted m s) ≤ cost_of m s
 costs_no_more m own s = subst (λ (n : Model). cost_of n (compacted n s) ≤ cost_of n s) (sym own) (cost_falls m.ext m.options s)
 
-pub no_cheaper : (m : Model) → IsModel m → IsExtended m.ext → IsFit m.ext.table → (n : ℕ) → ((s : Solution) → IsSolution m s → n ≤ cost_of m s)
+pub no_cheaper : (m : Model) → IsModel m → IsExtended m.ext → IsFit m.ext.table → (n : ℕ)
+    → ((s : Solution) → IsSolution m s → n ≤ cost_of m s)
     → (x : Solution) → IsLoose m x → n ≤ cost_of m x
 no_cheaper m own extended fit n all x loose =
     let a = all (compacted m x) (is_solution m own extended fit x loose) in

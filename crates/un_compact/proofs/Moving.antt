@@ -28,7 +28,8 @@ use Rattle.un_model.specs.Schedules.{value_by, instr_of, cycle_by, cycle_of, is_
 use Rattle.un_model.specs.Schedules.{range_by, range_of, ranges_of, issues_of, reads_of, schedule_of}
 use Rattle.un_model.specs.Variables.{model_of, var_at, register_place}
 use Rattle.un_model.proofs.Lists.{Each, Member, each_member, each_of, member_at, slice_get-map, length_get, map-append}
-use Rattle.un_model.proofs.Placed.{Placed, vars_of, end_of, issue_at, reads_at, Spot, spot, spots_of, temp_vars, issues_are, reads_are, temps_are}
+use Rattle.un_model.proofs.Placed.{Placed, vars_of, end_of, issue_at, reads_at, Spot, spot, spots_of, temp_vars, issues_are, reads_are}
+use Rattle.un_model.proofs.Placed.{temps_are}
 use Rattle.un_model.proofs.PlacedSchedules.{all, spots, issue_here, spot_temp, definer_in, one_spot, joined_member, places_member}
 use Rattle.un_compact.specs.Squeezes.{squeezed}
 use Rattle.un_compact.proofs.Squeezing.{rises, no_more, before_later}
@@ -63,7 +64,8 @@ all_same : (new old : List ℕ) (vs : List VarId) → Each (λ (v : VarId). valu
     → list_all (λ (v : VarId). value_of new v == 0) vs ≡ list_all (λ (v : VarId). value_of old v == 0) vs
 all_same new old [] h = refl
 all_same new old (v ∷ vs) h =
-    ap (λ n. eqb n 0 && list_all (λ (v : VarId). value_of new v == 0) vs) h.0 ∙ ap (λ b. eqb (value_of old v) 0 && b) (all_same new old vs h.1)
+    ap (λ n. eqb n 0 && list_all (λ (v : VarId). value_of new v == 0) vs) h.0 ∙ ap (λ b. eqb (value_of old v) 0 && b)
+    (all_same new old vs h.1)
 
 pub choice_same : (new old : List ℕ) (vs : List VarId) (j : ℕ) → Each (λ (v : VarId). value_of new v ≡ value_of old v) vs
     → value_by new (slice_get vs j) ≡ value_by old (slice_get vs j)
@@ -278,7 +280,8 @@ module _ (used : ℕ → ℕ → Bool) (start : (b : ℕ) → used b 0 ≡ true)
               let r = joined_member spots_of (all e o old) s m in
               let q = places_member (spot r.0) 0 r.0.op.results s r.2 in
               let lt = length_get r.0.op.results q.0 q.1 q.2 in
-              subst (λ (s : Spot). s.place < length s.definer.op.results) q.3 (let z : 0 + q.0 < length r.0.op.results = omega (arith, lt) in z)
+              subst (λ (s : Spot). s.place < length s.definer.op.results) q.3
+              (let z : 0 + q.0 < length r.0.op.results = omega (arith, lt) in z)
 
       pub ranges_moved : ranges_of new (issues_of (model_of e o) new) (reads_of (model_of e o) new) (model_of e o).temps ≡ map
           (move_range used start) (ranges_of old (issues_of (model_of e o) old) (reads_of (model_of e o) old) (model_of e o).temps)

@@ -111,7 +111,8 @@ same_use old vars times h c = sym (list_any-IsPermutation (λ (t : ℕ). eqb t c
 pub block_moved : (old before new : List ℕ) (vars : BlockVars) (times : List ℕ) → IsPermutation (times_of old vars) times
     → AreMoved (is_time_in vars) (squeezed (is_in times)) old before new
     → AreMoved (is_time_in vars) (squeezed (is_used old vars)) old before new
-block_moved old before new vars times h k = same_moves (is_time_in vars) (is_time_in vars) (squeezed (is_in times)) (squeezed (is_used old vars))
+block_moved old before new vars times h k =
+    same_moves (is_time_in vars) (is_time_in vars) (squeezed (is_in times)) (squeezed (is_used old vars))
     old before new (λ n. refl) (λ c. squeezed_same (is_in times) (is_used old vars) (same_use old vars times h) c) k
 
 length-places : {A B : Type 0} (f : ℕ → A → B) (i : ℕ) (xs : List A) → length (places_from f i xs) ≡ length xs
@@ -125,7 +126,8 @@ none_yet old i = by i old
     by i [] = refl
     by i (x ∷ xs) = ap (λ ys. x ∷ ys) (by (i + 1) xs)
 
-pub block_more : (old prev next : List ℕ) (blocks : List BlockVars) (i : ℕ) (vars : BlockVars) → i < length blocks → vars ≡ get_or blocks i vars
+pub block_more : (old prev next : List ℕ) (blocks : List BlockVars) (i : ℕ) (vars : BlockVars) → i < length blocks
+    → vars ≡ get_or blocks i vars
     → prev ≡ places_from (moved_by old (take i blocks)) 0 old → AreMoved (is_time_in vars) (squeezed (is_used old vars)) old prev next
     → next ≡ places_from (moved_by old (take (i + 1) blocks)) 0 old
 block_more old prev next blocks i vars lt is so_far h =

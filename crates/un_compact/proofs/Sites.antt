@@ -54,7 +54,8 @@ length_instr truth Leave = refl
 
 module _ (all : List Domain) (e : Ext) (o : Options) where
   -- the domain of a cycle
-  pub cycle_stands : (ie : Bool) (owner : ExtBlock) (h first : ℕ) (op : ExtOp) (d : Domain) → Stands all first (op_domains e o ie owner h op)
+  pub cycle_stands : (ie : Bool) (owner : ExtBlock) (h first : ℕ) (op : ExtOp) (d : Domain)
+      → Stands all first (op_domains e o ie owner h op)
       → cycle_domain h op.kind ≡ Some d → slice_get all (first + cycle_place op) ≡ Some d
   cycle_stands ie owner h first op d s q =
       let a = option_to_list (instr_domain (carries_truth e owner op op.results) op.kind) in
@@ -161,7 +162,8 @@ in_of : (c : ℕ) (xs : List ℕ) → list_any (λ (t : ℕ). t == c) xs ≡ tru
 in_of c [] e = absurd (cc e)
 in_of c (x ∷ xs) e = by (λ h. in_of c xs h) (eqb x c) refl e
   where
-    by : (list_any (λ (t : ℕ). t == c) xs ≡ true → Among c xs) → (b : Bool) → eqb x c ≡ b → (eqb x c || list_any (λ (t : ℕ). t == c) xs) ≡ true → Among c (x ∷ xs)
+    by : (list_any (λ (t : ℕ). t == c) xs ≡ true → Among c xs) → (b : Bool) → eqb x c ≡ b
+        → (eqb x c || list_any (λ (t : ℕ). t == c) xs) ≡ true → Among c (x ∷ xs)
     by later true q h = inl (eqb-true x c q)
     by later false q h = inr (later (sym (ap (λ (b : Bool). b || list_any (λ (t : ℕ). t == c) xs) q) ∙ h))
 

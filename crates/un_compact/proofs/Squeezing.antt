@@ -31,7 +31,8 @@ module _ (used : ℕ → Bool) where
   pub rises : (c d : ℕ) → c ≤ d → S c ≤ S d
   rises c zero le = let q : c ≡ 0 = omega (arith, le) in subst (λ x. S x ≤ 0) (sym q) (omega arith)
   rises c (suc d) le = ⊎_elim
-      (λ (h : c < suc d). let r = rises c d (omega (arith, h)) in let s : S c ≤ S d + count_if (used d || used (suc d)) = omega (arith, r) in s)
+      (λ (h : c < suc d). let r = rises c d (omega (arith, h)) in
+      let s : S c ≤ S d + count_if (used d || used (suc d)) = omega (arith, r) in s)
       (λ (h : suc d ≤ c). let q : suc d ≡ c = omega (arith, h, le) in subst (λ x. S x ≤ S (suc d)) q (omega arith))
       (cases_lt c (suc d))
 

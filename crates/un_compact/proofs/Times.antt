@@ -65,7 +65,8 @@ op_in first k (op ∷ ops) o (inr m) e =
 
 block_in : (first k : ℕ) (block : ExtBlock) → is_time_in (block_vars first block) k ≡ true → (first ≤ k) × (k < first + block_count block)
 block_in first k block e = ⊎_elim
-    (λ (h : is_cycle (ops_vars first block.ops) k ≡ true). let r = any_of (λ (o : OpVars). is_number k o.cycle) (ops_vars first block.ops) h in
+    (λ (h : is_cycle (ops_vars first block.ops) k ≡ true).
+    let r = any_of (λ (o : OpVars). is_number k o.cycle) (ops_vars first block.ops) h in
     let s = op_in first k block.ops r.0 r.1 r.2 in let lo = s.0 in let hi = s.1 in (lo, omega (arith, hi)))
     (λ (h : eqb k (first + ops_count block.ops) ≡ true). let q = eqb-true k (first + ops_count block.ops) h in
     (omega (arith, q), omega (arith, q)))
@@ -154,7 +155,8 @@ owned_in b owner close n first (op ∷ ops) = (
     high = omega arith;
     others = head_others;
   },
-  each_more (OwnedIn b close (first + var_count op) ops) (OwnedIn b close first (op ∷ ops)) (placed b owner close (n + 1) (first + var_count op) ops)
+  each_more (OwnedIn b close (first + var_count op) ops) (OwnedIn b close first (op ∷ ops))
+      (placed b owner close (n + 1) (first + var_count op) ops)
       (λ p h. record {
         block = h.block;
         end = h.end;
@@ -168,7 +170,8 @@ owned_in b owner close n first (op ∷ ops) = (
     head_others : (j : ℕ) → j < var_count op → (has_cycle op.kind ≡ true → j ≡ cycle_place op → ⊥) → (o : OpVars)
         → Member o (ops_vars first (op ∷ ops)) → is_number (first + j) o.cycle ≡ true → ⊥
     head_others j lt unlike o (inl q) e =
-        let r = number_if (has_cycle op.kind) (first + j) (first + cycle_place op) (ap (λ (v : OpVars). is_number (first + j) v.cycle) q ∙ e) in
+        let r = number_if (has_cycle op.kind) (first + j) (first + cycle_place op)
+        (ap (λ (v : OpVars). is_number (first + j) v.cycle) q ∙ e) in
         let at = r.1 in unlike r.0 (omega (arith, at))
     head_others j lt unlike o (inr m) e =
         let r = op_in (first + var_count op) (first + j) ops o m e in let lo = r.0 in omega (arith, lo, lt)
@@ -270,7 +273,8 @@ pub in_use : (old : List ℕ) (vars : BlockVars) (c : ℕ) → Member c (times_o
 in_use old vars c m = any_in (λ (t : ℕ). t == c) (times_of old vars) c m (eq-eqb c c refl)
 
 pub cycle_in_use : (old : List ℕ) (vars : BlockVars) (o : OpVars) → Member o vars.ops → is_used old vars (value_by old o.cycle) ≡ true
-cycle_in_use old vars o m = in_use old vars (value_by old o.cycle) (inr (inr (member_map (λ (o : OpVars). value_by old o.cycle) vars.ops o m)))
+cycle_in_use old vars o m =
+    in_use old vars (value_by old o.cycle) (inr (inr (member_map (λ (o : OpVars). value_by old o.cycle) vars.ops o m)))
 
 pub end_in_use : (old : List ℕ) (vars : BlockVars) → is_used old vars (value_of old vars.end) ≡ true
 end_in_use old vars = in_use old vars (value_of old vars.end) (inr (inl refl))
@@ -281,7 +285,8 @@ start_in_use old vars = in_use old vars 0 (inl refl)
 -- ---- the variables of times
 
 pub cycle_is_time : (vars : BlockVars) (o : OpVars) (v : VarId) → Member o vars.ops → o.cycle ≡ Some v → is_time_in vars v.0 ≡ true
-cycle_is_time vars o v m e = or_left (is_cycle vars.ops v.0) (eqb v.0 vars.end.0) (any_in (λ (o : OpVars). is_number v.0 o.cycle) vars.ops o m
+cycle_is_time vars o v m e =
+    or_left (is_cycle vars.ops v.0) (eqb v.0 vars.end.0) (any_in (λ (o : OpVars). is_number v.0 o.cycle) vars.ops o m
     (ap (is_number v.0) e ∙ eq-eqb v.0 v.0 refl))
 
 pub end_is_time : (vars : BlockVars) → is_time_in vars vars.end.0 ≡ true

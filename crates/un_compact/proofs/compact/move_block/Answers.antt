@@ -21,7 +21,8 @@ pub move_cycles-requires-clause-inside : goal.move_cycles-requires-clause-inside
 move_cycles-requires-clause-inside c =
     let old = c.args.old.now in
     let vars = c.args.vars.now in
-    subst (λ (ops : List OpVars). All (λ (o : OpVars). is_in c.as_slice-2.result.now (value_by old o.cycle) ≡ true) ops) (sym c.as_slice.ensures)
+    subst (λ (ops : List OpVars). All (λ (o : OpVars). is_in c.as_slice-2.result.now (value_by old o.cycle) ≡ true) ops)
+    (sym c.as_slice.ensures)
     (all_of (λ (o : OpVars). is_in c.as_slice-2.result.now (value_by old o.cycle) ≡ true) vars.ops
     (each_of (λ (o : OpVars). is_in c.as_slice-2.result.now (value_by old o.cycle) ≡ true) vars.ops (λ o m.
     subst (λ (ts : List ℕ). is_in ts (value_by old o.cycle) ≡ true) (sym c.as_slice-2.ensures.value)
@@ -53,4 +54,5 @@ returns c =
     (c.as_slice-2.ensures.value ∙ sym c.as_slice-3.ensures.value) all in
     let end = c.move_time.ensures (λ (k : ℕ). is_cycle vars.ops k) before by_times in
     block_moved old before c.move_time.new.new vars times c.in_ok-times.ensures.permutation
-    (subst (λ (ts : List ℕ). AreMoved (is_time_in vars) (squeezed (is_in ts)) old before c.move_time.new.new) c.as_slice-3.ensures.value end)
+    (subst (λ (ts : List ℕ). AreMoved (is_time_in vars) (squeezed (is_in ts)) old before c.move_time.new.new) c.as_slice-3.ensures.value
+    end)

@@ -40,5 +40,6 @@ move_time-requires-clause-inside c =
 pub returns : goal.returns
 returns c = λ p before start.
     let whole = take_all c.loop-op.op-index c.args.ops.now (omega (arith, c.loop-op-test.false)) in
-    subst (λ (ops : List OpVars). AreMoved (λ k. p k || is_cycle ops k) (squeezed (is_in c.args.times.now)) c.args.old.now before c.loop-op.new)
+    subst (λ (ops : List OpVars). AreMoved (λ k. p k || is_cycle ops k) (squeezed (is_in c.args.times.now)) c.args.old.now before
+    c.loop-op.new)
     whole (c.loop-op.invariant p before start)
