@@ -24,6 +24,8 @@ pub struct Manner {
     pub to_arguments: bool,
     /// Whether a call's result that crosses the next call is saved from that at once.
     pub save_at_once: bool,
+    /// Whether a result is defined in the register where it ends although a value that ends in a slot stands there, which leaves it.
+    pub make_room: bool,
 }
 
 /// Nothing besides.
@@ -32,6 +34,7 @@ pub const PLAIN: Manner = Manner {
     link_first: false,
     to_arguments: false,
     save_at_once: false,
+    make_room: false,
 };
 
 /// What a trial follows.

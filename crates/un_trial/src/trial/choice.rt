@@ -3,7 +3,7 @@
 use super::Trial;
 use crate::sets::{GENERAL, PREDICATES, RegisterSet};
 use crate::table::NONE;
-use un_isa::reg::FIRST_SLOT;
+use un_isa::reg::{FIRST_SLOT, GENERALS};
 
 /// What speaks against a register for each cycle that it is free later.
 const LATER: u64 = 3;
@@ -91,7 +91,22 @@ impl<'a> Trial<'a> {
         self.evict_general(best).unwrap_or(NONE)
     }
 
+    /// Whether what stands in a register is to leave it for a value that ends there: it ends in a slot itself.
+    fn makes_room(&self, r: u32) -> bool {
+        if !self.manner.make_room || r >= GENERALS || self.marks.locked.has(r) {
+            return false;
+        }
+        let t = self.occupant.at(r);
+        let v = self.value_of(t);
+        let is_last = self.use_behind.at(v) > self.length();
+        t == v && is_last && self.ends_in_slot(v) && self.copy_is_left(self.temporary(v).copy)
+    }
+
     pub(super) fn take_general(&mut self, earliest: u32, hint: u32, crosses: bool) -> Option<u32> {
+        if self.makes_room(hint) {
+            let ending = self.occupant.at(hint);
+            return self.evict_general(ending);
+        }
         let set = self.task.machine.assignable.and(GENERAL);
         let kept = if crosses {
             self.take_kept(earliest, hint)
