@@ -30,6 +30,9 @@ const STALE: u64 = 4;
 /// A plan that costs more than the present one is gone on from once in so many times.
 const DETOUR: u64 = 4;
 
+/// The trials of a plan that is settled are this part of all that were allowed before: one in so many.
+const SETTLED: u64 = 8;
+
 /// The plans of a climb.
 #[derive(Drop)]
 struct Plans {
@@ -201,6 +204,7 @@ impl<'a> Search<'a> {
         }
         if new.record.cycles <= self.least {
             self.saves_copies = true;
+            self.is_settled = true;
         }
         Ok(new)
     }
@@ -251,6 +255,16 @@ impl<'a> Search<'a> {
             now = self.step(&mut plans, now)?;
         }
         Ok(plans.best)
+    }
+
+    /// Makes further trials of a plan that go other ways as well: by lists, and with room made for what ends in registers. It costs no more.
+    pub fn settle(&mut self, plan: &mut Plan) -> Result<(), AllocError> {
+        self.is_settled = true;
+        self.left = self.budget / SETTLED;
+        for mine in plan.blocks.iter_mut() {
+            mine.go_on();
+        }
+        self.spend(plan)
     }
 
     /// Makes more and more trials for the blocks above their least ends, and for copies.

@@ -60,6 +60,7 @@ fn searched(alloc: Global, facts: &Facts, budget: u64) -> Result<Option<Found>, 
     };
     let mut plan = search.climb(alloc, start, quarter)?;
     search.spend(&mut plan)?;
+    search.settle(&mut plan)?;
     let values = assembled(alloc, facts, &plan)?;
     Ok(Some(Found {
         values,
@@ -107,8 +108,8 @@ fn cheapest(
     Ok(Some(best))
 }
 
-/// The values that a search with at most `budget` trials of blocks makes, or one of those that follow under fewer registers where options
-/// limit them; None where no start assignment leads to any. Nothing is promised of them: `first` judges them.
+/// The values that a search with at most `budget` trials of blocks and an eighth more makes, or one of those that follow under fewer
+/// registers where options limit them; None where no start assignment leads to any. Nothing is promised of them: `first` judges them.
 ///
 /// # Errors
 /// `NoMemory` where there is no memory for the plans.
@@ -124,9 +125,10 @@ pub fn candidate(
     Ok(found.map(|best| best.values))
 }
 
-/// A solution by at most `budget` trials of blocks, and, where options limit the registers and it costs more than the least, by more of
-/// them under fewer registers. It follows from the model, the bounds and the budget alone; None where none was found. `least_ends` has a
-/// lower bound of each block's end: a block that has reached it gets no more trials. A wrong one makes the answer worse, and not wrong.
+/// A solution by at most `budget` trials of blocks and an eighth more, and, where options limit the registers and it costs more than the
+/// least, by more of them under fewer registers. It follows from the model, the bounds and the budget alone; None where none was found.
+/// `least_ends` has a lower bound of each block's end: a block that has reached it gets no more trials. A wrong one makes the answer
+/// worse, and not wrong.
 ///
 /// # Errors
 /// `NoMemory` where there is no memory for the plans.

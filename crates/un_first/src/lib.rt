@@ -8,6 +8,7 @@ mod chance;
 mod changes;
 mod climb;
 pub mod first;
+mod lists;
 mod orders;
 mod places;
 mod plan;

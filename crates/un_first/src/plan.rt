@@ -99,6 +99,12 @@ impl BlockPlan {
         self.is_found = false;
     }
 
+    /// Goes on from the best schedule, with as much patience as at first.
+    pub fn go_on(&mut self) {
+        self.tried = 2;
+        self.gained = 2;
+    }
+
     /// Makes the trials those of another.
     pub fn copy_from(&mut self, other: &BlockPlan) -> Result<(), AllocError> {
         self.tried = other.tried;

@@ -2,12 +2,13 @@
 
 use crate::chance::Noise;
 use crate::changes::spare_slots;
+use crate::lists::{List, Weights};
 use crate::orders::move_one;
 use crate::places::Places;
 use crate::plan::{BlockPlan, Cost, Plan, UNLIMITED};
 use std::alloc::{AllocError, Global};
 use std::mem;
-use un_blocks::facts::{Block, Facts};
+use un_blocks::facts::{Block, Facts, at};
 use un_trial::recipe::{Crossing, Manner, PLAIN, Recipe};
 use un_trial::sets::{EMPTY, RegisterSet};
 use un_trial::trial::{Size, Task, Trial};
@@ -20,6 +21,12 @@ const PATIENCE: u64 = 800;
 
 /// After so many a block that ends as early as it can is tried no more where copies are to be saved.
 const COPY_PATIENCE: u64 = 20;
+
+/// What a live range weighs in a list: one of these.
+const PRESSURES: [u32; 8] = [1, 2, 4, 8, 16, 32, 64, 128];
+
+/// What chance weighs in a list: less than this.
+const CHANCE: u32 = 24;
 
 /// A recipe to begin with, where there is one.
 #[derive(Drop)]
@@ -43,7 +50,10 @@ pub struct Search<'a> {
     pub least: u64,
     /// Whether blocks that end as early as they can are tried as well, to save copies.
     pub saves_copies: bool,
+    /// Whether trials go other ways as well, since a plan costs the least or its places are not changed any more.
+    pub is_settled: bool,
     trial: Trial<'a>,
+    list: List,
     recipe: Recipe,
     /// The present plan's recipes are the first trials under other places.
     seeds: Vec<Seed>,
@@ -108,7 +118,9 @@ impl<'a> Search<'a> {
             left: budget,
             least: least_cost(facts),
             saves_copies: false,
+            is_settled: false,
             trial: Trial::empty(alloc, task),
+            list: List::new(alloc),
             recipe: Recipe::new(alloc),
             seeds,
         })
@@ -143,6 +155,9 @@ impl<'a> Search<'a> {
             self.recipe.manner.spill_saved = manner.spill_saved;
             self.recipe.manner.link_first = manner.link_first;
         }
+        if self.is_settled && self.noise.one_in(4) {
+            self.recipe.manner.make_room = !self.recipe.manner.make_room;
+        }
         if mine.tried > 1 && block.has_call() && self.noise.one_in(3) {
             self.change_manner(block)?;
         }
@@ -176,12 +191,31 @@ impl<'a> Search<'a> {
             .set_crossing(block.temporary(t).value, count, crossing)
     }
 
+    /// Whether a trial has an order by a list: every other one of a block without calls, where that may bring an earlier end.
+    fn is_listed(&mut self, block: &Block, mine: &BlockPlan) -> bool {
+        let is_late = mine.is_found && mine.best.end > block.least_end;
+        self.is_settled && is_late && !block.has_call() && self.noise.one_in(2)
+    }
+
+    /// The recipe of a trial by a list.
+    fn listed_recipe(&mut self, block: &Block, manner: Manner) -> Result<(), AllocError> {
+        self.recipe.restart(&[], manner)?;
+        let weights = Weights {
+            pressure: at(&PRESSURES, self.noise.place(8)),
+            chance: self.noise.place(CHANCE),
+        };
+        self.list
+            .fill(block, weights, &mut self.noise, &mut self.recipe.order)
+    }
+
     fn next_recipe(&mut self, b: u32, block: &Block, mine: &BlockPlan) -> Result<(), AllocError> {
         let mut manner = PLAIN;
         manner.spill_saved = self.noise.one_in(2);
         manner.link_first = self.noise.one_in(2);
         if mine.tried == 0 {
             self.first_recipe(b, block, manner)
+        } else if self.is_listed(block, mine) {
+            self.listed_recipe(block, manner)
         } else {
             self.other_recipe(block, mine, manner)
         }
