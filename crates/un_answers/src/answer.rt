@@ -1,5 +1,8 @@
 //! What a run of a program comes to: a text for standard output, what is told on standard error, and how it ends.
 
+ghost use Rattle.std.specs.Prelude.{◌≡◌, []};
+ghost use Rattle.un_outside.specs.declared.status.Status.{Status};
+
 use std::alloc::Global;
 use un_base::memory_error::NoMemory;
 use un_ir::text::{put_number, put_text};
@@ -18,7 +21,11 @@ pub struct Answer {
 
 impl Answer {
     /// A whole output.
-    pub fn done(alloc: Global, out: Vec<u8>) -> Answer {
+    pub fn done(alloc: Global, out: Vec<u8>) -> Answer
+        ensures out { result.out.items ≡ out.items }
+        ensures told { result.told.items ≡ [] }
+        ensures status { result.status ≡ Status.Done }
+    {
         Answer {
             out,
             told: Vec::new(alloc),
@@ -27,12 +34,20 @@ impl Answer {
     }
 
     /// No output, for this cause.
-    pub fn failed(alloc: Global, status: Status) -> Answer {
+    pub fn failed(alloc: Global, status: Status) -> Answer
+        ensures out { result.out.items ≡ [] }
+        ensures told { result.told.items ≡ [] }
+        ensures status { result.status ≡ status }
+    {
         Answer::told(alloc, Vec::new(alloc), status)
     }
 
     /// No output, for a cause that is told in words.
-    pub fn told(alloc: Global, told: Vec<u8>, status: Status) -> Answer {
+    pub fn told(alloc: Global, told: Vec<u8>, status: Status) -> Answer
+        ensures out { result.out.items ≡ [] }
+        ensures told { result.told.items ≡ told.items }
+        ensures status { result.status ≡ status }
+    {
         Answer {
             out: Vec::new(alloc),
             told,
