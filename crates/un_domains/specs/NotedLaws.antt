@@ -11,7 +11,7 @@ use Rattle.un_domains.specs.Domains.{value_at, values_of, IsDomain}
 use Rattle.un_domains.specs.Levels.{MarkedWords}
 use Rattle.un_domains.specs.Sets.{Sets, set_at, has, least, greatest, NoneEmpty}
 use Rattle.un_domains.specs.SetLaws.{same_or_not, least-le, has-fold_max}
-use Rattle.un_domains.specs.OrderLaws.{filter_all, same_test}
+use Rattle.un_domains.specs.OrderLaws.{filter_all, same_test, has_least, has_greatest}
 use Rattle.un_domains.specs.ShapeLaws.{bounds_some, bounds_lt, least_value, greatest_value, laid_at, cut_store, cut_is}
 use Rattle.un_domains.specs.ShapeLaws.{mark_store, undo_store, spread_all}
 use Rattle.un_domains.specs.Shapes.{places_of, row_of, set_of, sets_of, IsLaid, IsStore, IsPlacesCut}
@@ -250,6 +250,15 @@ outside_ends xs a b x ends out = by (has xs x) refl
         let low = least-le xs x e in
         let high = has-fold_max 0 xs x e in
         absurd (elim out [ inl lt ↦ omega (arith, lt, low, s.0) | inr gt ↦ omega (arith, gt, high, s.1) ])
+
+pub end_has : (xs : List ℕ) (a b x : ℕ) → AreEnds xs a b → a ≤ x → x ≤ b → (x ≡ a) ⊎ (x ≡ b) → has xs x ≡ true
+end_has xs a b x ends low high is = elim (cases_lt 0 (length xs)) [
+  | inl some ↦ (let s = ends.some some in elim is [
+    | inl e ↦ subst (λ (k : ℕ). has xs k ≡ true) (sym (e ∙ s.0)) (has_least xs some)
+    | inr e ↦ subst (λ (k : ℕ). has xs k ≡ true) (sym (e ∙ s.1)) (has_greatest xs some)
+  ])
+  | inr none ↦ absurd (let z = ends.none (omega (arith, none)) in omega (arith, z.0, z.1, low, high))
+]
 
 -- ---- a whole store
 

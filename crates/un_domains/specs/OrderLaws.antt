@@ -1,11 +1,12 @@
 -- Laws of the order of stores.
 use Rattle.std.proofs.Common.{ℕ, suc, ◌≡◌, ◌<◌, ◌≤◌, ◌+◌, Bool, true, false, ◌&&◌, cond, List, [], ◌∷◌, length, filter, fold, nat_eq, min}
-use Rattle.std.proofs.Common.{max, refl, sym, ap, ◌∙◌, subst, arith}
+use Rattle.std.proofs.Common.{max, refl, sym, ap, ◌∙◌, subst, arith, inl, inr}
+use Rattle.std.proofs.lemmas.Bool.{cases_lt}
 use Rattle.std.proofs.lemmas.Bool.Decides.{nat_tests}
 use Rattle.std.proofs.lemmas.List.{ext_get_or}
 use Rattle.std.proofs.lemmas.List.Sums.{sum_by-cons}
 use Rattle.un_domains.specs.Sets.{Sets, set_at, has, total, least, greatest}
-use Rattle.un_domains.specs.SetLaws.{has-filter, least-le, has-fold_max}
+use Rattle.un_domains.specs.SetLaws.{has-cons, has-filter, least-le, has-fold_max}
 use Rattle.un_domains.specs.CutLaws.{filter-le, filter_whole}
 use Rattle.un_domains.specs.Order.{Below}
 
@@ -174,3 +175,38 @@ greatest_below t s v b =
 -- what has one value and keeps one keeps it
 pub single_below : (t s : Sets) (v : ℕ) → Below t s → 0 < length (set_at t v) → length (set_at s v) ≡ 1 → set_at t v ≡ set_at s v
 single_below t s v b some one = set_same t s v b (let le = shorter t s v b in omega (arith, le, some, one))
+
+-- the least and the greatest value are values
+
+fold_min-in : (a : ℕ) (xs : List ℕ) → has (a ∷ xs) (fold min a xs) ≡ true
+fold_min-in a [] = has_here a []
+fold_min-in a (y ∷ ys) = let r = fold min (min a y) ys in elim (has-cons (min a y) r ys (fold_min-in (min a y) ys)) [
+  | inl e ↦ elim (cases_lt a y) [
+    | inl lt ↦ (let is : r ≡ a = omega (arith, e, lt) in subst (λ (k : ℕ). has (a ∷ y ∷ ys) k ≡ true) (sym is) (has_here a (y ∷ ys)))
+    | inr le ↦ (let is : r ≡ y = omega (arith, e, le) in
+        subst (λ (k : ℕ). has (a ∷ y ∷ ys) k ≡ true) (sym is) (has_later a y (y ∷ ys) (has_here y ys)))
+  ]
+  | inr t ↦ has_later a r (y ∷ ys) (has_later y r ys t)
+]
+
+fold_max-in : (a : ℕ) (xs : List ℕ) → has (a ∷ xs) (fold max a xs) ≡ true
+fold_max-in a [] = has_here a []
+fold_max-in a (y ∷ ys) = let r = fold max (max a y) ys in elim (has-cons (max a y) r ys (fold_max-in (max a y) ys)) [
+  | inl e ↦ elim (cases_lt a y) [
+    | inl lt ↦ (let is : r ≡ y = omega (arith, e, lt) in
+        subst (λ (k : ℕ). has (a ∷ y ∷ ys) k ≡ true) (sym is) (has_later a y (y ∷ ys) (has_here y ys)))
+    | inr le ↦ (let is : r ≡ a = omega (arith, e, le) in subst (λ (k : ℕ). has (a ∷ y ∷ ys) k ≡ true) (sym is) (has_here a (y ∷ ys)))
+  ]
+  | inr t ↦ has_later a r (y ∷ ys) (has_later y r ys t)
+]
+
+pub has_least : (xs : List ℕ) → 0 < length xs → has xs (least xs) ≡ true
+has_least [] some = absurd (omega arith)
+has_least (x ∷ xs) some = fold_min-in x xs
+
+pub has_greatest : (xs : List ℕ) → 0 < length xs → has xs (greatest xs) ≡ true
+has_greatest [] some = absurd (omega arith)
+has_greatest (x ∷ xs) some = let r = fold max (max 0 x) xs in elim (has-cons (max 0 x) r xs (fold_max-in (max 0 x) xs)) [
+  | inl e ↦ (let is : r ≡ x = omega (arith, e) in subst (λ (k : ℕ). has (x ∷ xs) k ≡ true) (sym is) (has_here x xs))
+  | inr t ↦ has_later x r xs t
+]

@@ -1,10 +1,14 @@
-//! The words that changed since a mark, with what they were: one level of them for each mark.
+//! What the words that changed since each mark were, in one list for all marks: a mark costs what changes behind it.
 
-ghost use Rattle.std.specs.Prelude.{◌≡◌, ℕ, ◌+◌, ◌<◌, ◌≤◌, List, [], ◌∷◌, ◌++◌, length, slice_index, slice_set, OnOk, OnErr, IfOk, All};
+ghost use Rattle.std.specs.Prelude.{◌≡◌, ℕ, ◌+◌, ◌<◌, ◌≤◌, List, [], ◌∷◌, ◌++◌, length, slice_index, slice_set, take, drop, OnOk, OnErr, All};
 ghost use Rattle.std.specs.Prelude.{vec_capacity};
-ghost use Rattle.un_domains.specs.Levels.{IsLevel, IsClean, IsSave, marked_of, unwind};
+ghost use Rattle.un_domains.specs.Levels.{AreSaves, marked_of, unwind, unstamp};
+ghost use Rattle.un_domains.specs.declared.levels.Saved.{Saved};
 
 use std::alloc::{AllocError, Global};
+
+/// How many marks there may be at once.
+const MOST_MARKS: usize = u32::MAX as usize;
 
 /// A word before a change.
 #[derive(Clone, Copy)]
@@ -13,85 +17,118 @@ pub struct Saved {
     pub at: usize,
     /// What the word was.
     pub old: u64,
+    /// The stamp that it had.
+    pub stamp: u32,
 }
 
-/// The words that changed since a mark.
+/// What the words were at each mark.
 #[derive(Drop)]
-pub struct Level {
-    /// A flag for each word of the store: whether it is among the entries.
-    pub saved: Vec<bool>,
-    /// Each word that has its flag, with what it was at the mark.
+pub struct Saves {
+    /// A stamp for each word: the number of the mark behind which it was saved last, from 1 on, or 0. There are none before the first
+    /// mark.
+    pub stamps: Vec<u32>,
+    /// The words that were saved, the oldest first: behind each mark those that changed, each once.
     pub entries: Vec<Saved>,
+    /// How many entries there were at each mark.
+    pub starts: Vec<usize>,
 }
 
-/// A level in which no word is saved, with room for `n`.
-pub fn new_level(alloc: Global, n: usize) -> Result<Level, AllocError>
-    ensures { IfOk result (IsClean n) }
+/// Nothing saved, and no mark. It takes no memory.
+pub fn no_saves(alloc: Global) -> Saves
+    ensures saves { (n : ℕ) → AreSaves n result }
+    ensures marked { (ws : List ℕ) → marked_of result ws ≡ [] }
 {
-    let saved = vec![in alloc; false; n]?;
-    let entries = Vec::with_capacity(alloc, n)?;
-    Ok(Level { saved, entries })
+    Saves {
+        stamps: Vec::new(alloc),
+        entries: Vec::new(alloc),
+        starts: Vec::new(alloc),
+    }
 }
 
-/// Saves what word `i` was, unless it is saved. It takes no memory.
-pub fn save(level: &mut Level, i: usize, old: u64)
-    requires level { IsLevel (length level.old.saved.items) level.old }
-    requires within { i < length level.old.saved.items }
-    ensures { IsSave (length level.old.saved.items) i old level.old level.new }
+/// Saves what word `i` of `n` was at the last mark, where there is one and it is not saved. It takes no memory.
+pub fn save(saves: &mut Saves, n: usize, i: usize, old: u64)
+    requires saves { AreSaves n saves.old }
+    requires within { i < n }
+    ensures saves { AreSaves n saves.new }
+    ensures marked { (ws : List ℕ) (w : ℕ) → slice_index ws i ≡ old → i < length ws
+        → marked_of saves.new (slice_set ws i w) ≡ marked_of saves.old ws }
 {
-    if !level.saved[i] {
-        level.saved[i] = true;
-        match level.entries.push(Saved { at: i, old }) {
-            Ok(()) => {}
-            Err(_) => unreachable!(),
+    let depth = saves.starts.len();
+    if depth == 0 {
+        return;
+    }
+    let stamp = saves.stamps[i];
+    if stamp as usize == depth {
+        return;
+    }
+    saves.stamps[i] = depth as u32;
+    match saves.entries.push(Saved { at: i, old, stamp }) {
+        Ok(()) => {}
+        Err(_) => unreachable!(),
+    }
+}
+
+/// Stamps for `n` words, where there are none.
+fn stamp_all(saves: &mut Saves, alloc: Global, n: usize) -> Result<(), AllocError>
+    requires { AreSaves n saves.old }
+    ensures saves { AreSaves n saves.new }
+    ensures long { OnOk result (length saves.new.stamps.items ≡ n) }
+    ensures starts { saves.new.starts ≡ saves.old.starts }
+    ensures entries { saves.new.entries ≡ saves.old.entries }
+{
+    if saves.stamps.len() != n {
+        saves.stamps = vec![in alloc; 0; n]?;
+    }
+    Ok(())
+}
+
+/// A mark of `n` words as they are. Room for each of them is taken here.
+pub fn mark(saves: &mut Saves, alloc: Global, n: usize) -> Result<(), AllocError>
+    requires { AreSaves n saves.old }
+    ensures saves { AreSaves n saves.new }
+    ensures ok { OnOk result ((ws : List ℕ) → marked_of saves.new ws ≡ marked_of saves.old ws ++ ws ∷ []) }
+    ensures err { OnErr result ((ws : List ℕ) → marked_of saves.new ws ≡ marked_of saves.old ws) }
+{
+    if saves.starts.len() >= MOST_MARKS {
+        return Err(AllocError);
+    }
+    stamp_all(saves, alloc, n)?;
+    saves.entries.reserve(n)?;
+    let start = saves.entries.len();
+    saves.starts.push(start)?;
+    Ok(())
+}
+
+/// Gives back what was saved from entry `start` on, the last first.
+fn give_back(words: &mut Vec<u64>, saves: &mut Saves, start: usize)
+    requires there { start ≤ length saves.old.entries.items }
+    requires within { All (λ (e : Saved). e.at < length words.old.items) (drop start saves.old.entries.items) }
+    requires flags { length saves.old.stamps.items ≡ length words.old.items }
+    ensures words { words.new.items ≡ unwind (drop start saves.old.entries.items) words.old.items }
+    ensures stamps { saves.new.stamps.items ≡ unstamp (drop start saves.old.entries.items) saves.old.stamps.items }
+    ensures entries { saves.new.entries.items ≡ take start saves.old.entries.items }
+    ensures starts { saves.new.starts.items ≡ saves.old.starts.items }
+    ensures capacity { vec_capacity saves.new.entries ≡ vec_capacity saves.old.entries }
+{
+    while start < saves.entries.len() {
+        match saves.entries.pop() {
+            Some(entry) => {
+                words[entry.at] = entry.old;
+                saves.stamps[entry.at] = entry.stamp;
+            }
+            None => unreachable!(),
         }
     }
 }
 
-/// A level in which no word is saved: one that is spare, or a new one.
-pub fn clean_level(spare: &mut Vec<Level>, alloc: Global, n: usize) -> Result<Level, AllocError>
-    requires { All (IsClean n) spare.old.items }
-    ensures level { IfOk result (IsClean n) }
-    ensures spare { All (IsClean n) spare.new.items }
+/// Gives back what was saved since the last mark, and takes that mark away. It takes no memory, and costs what was saved.
+pub fn take_back(words: &mut Vec<u64>, saves: &mut Saves)
+    requires saves { AreSaves (length words.old.items) saves.old }
+    requires some { 0 < length saves.old.starts.items }
+    ensures saves { AreSaves (length words.new.items) saves.new }
+    ensures marked { marked_of saves.old words.old.items ≡ marked_of saves.new words.new.items ++ words.new.items ∷ [] }
 {
-    match spare.pop() {
-        Some(level) => Ok(level),
-        None => new_level(alloc, n),
-    }
-}
-
-/// Gives the saved words back, the last first, and leaves none saved. It costs what was saved.
-pub fn restore(words: &mut Vec<u64>, level: &mut Level)
-    requires { IsLevel (length words.old.items) level.old }
-    ensures words { words.new.items ≡ unwind level.old.entries.items words.old.items }
-    ensures level { IsClean (length words.old.items) level.new }
-{
-    while let Some(entry) = level.entries.pop() {
-        words[entry.at] = entry.old;
-        level.saved[entry.at] = false;
-    }
-}
-
-/// Keeps a level for marks to come, where there is room for it.
-pub fn keep(spare: &mut Vec<Level>, level: Level)
-    ensures { (n : ℕ) → All (IsClean n) spare.old.items → IsClean n level → All (IsClean n) spare.new.items }
-{
-    match spare.push(level) {
-        Ok(()) => {}
-        Err(_) => {}
-    }
-}
-
-/// Saves what word `i` was at the last mark, where there is one. It takes no memory.
-pub fn note(levels: &mut Vec<Level>, n: usize, i: usize, old: u64)
-    requires levels { All (IsLevel n) levels.old.items }
-    requires within { i < n }
-    ensures levels { All (IsLevel n) levels.new.items }
-    ensures marked { (ws : List ℕ) (w : ℕ) → slice_index ws i ≡ old → i < length ws
-        → marked_of levels.new.items (slice_set ws i w) ≡ marked_of levels.old.items ws }
-{
-    let depth = levels.len();
-    if depth > 0 {
-        save(&mut levels[depth - 1], i, old);
+    if let Some(start) = saves.starts.pop() {
+        give_back(words, saves, start);
     }
 }

@@ -1,6 +1,6 @@
 //! The values of a domain by their places in it, from 0.
 
-ghost use Rattle.std.specs.Prelude.{◌≡◌, ℕ, ◌+◌, ◌-◌, ◌<◌, ◌≤◌, List, length, nat_le, nat_lt, nat_eq, slice_index};
+ghost use Rattle.std.specs.Prelude.{◌≡◌, ℕ, ◌+◌, ◌-◌, ◌<◌, ◌≤◌, List, length, nat_le, nat_lt, nat_eq, slice_index, IfSome};
 ghost use Rattle.un_domains.specs.Domains.{values_of, value_at, Rises};
 
 use crate::domain::Domain;
@@ -54,6 +54,49 @@ fn rank(values: &[u32], x: u32) -> usize
     low
 }
 
+/// The place of `x` in these rising values, where none is missing between the least and `x`, or between `x` and the greatest: so it is
+/// with registers and slots. Else there may be no answer.
+fn near(values: &[u32], x: u32) -> Option<usize>
+    ensures { IfSome result (λ k. (k < length values.now) × (slice_index values.now k ≡ x)) }
+{
+    let all = values.len();
+    if all == 0 {
+        return None;
+    }
+    let (least, greatest) = (values[0], values[all - 1]);
+    if x < least {
+        return None;
+    }
+    let up = (x - least) as usize;
+    if up < all {
+        if values[up] == x {
+            return Some(up);
+        }
+    }
+    if greatest < x {
+        return None;
+    }
+    let down = (greatest - x) as usize;
+    if down < all {
+        if values[all - 1 - down] == x {
+            return Some(all - 1 - down);
+        }
+    }
+    None
+}
+
+/// How many of these rising values are at most `x`.
+fn count_to(values: &[u32], x: u32) -> usize
+    requires { Rises values.now }
+    ensures within { result ≤ length values.now }
+    ensures agree { (i : ℕ) → i < length values.now → nat_lt i result ≡ nat_le (slice_index values.now i) x }
+{
+    match near(values, x) {
+        Some(k) => k + 1,
+        None => rank(values, x),
+    }
+}
+
 /// How many values are at most `x`: those at the places before it.
 pub fn places_to(domain: &Domain, x: u32) -> usize
     requires { Rises (values_of domain.now) }
@@ -69,7 +112,7 @@ pub fn places_to(domain: &Domain, x: u32) -> usize
                 all.min((x - *lo) as usize + 1)
             }
         }
-        Domain::Set(values) => rank(values.as_slice(), x),
+        Domain::Set(values) => count_to(values.as_slice(), x),
     }
 }
 

@@ -201,6 +201,12 @@ impl Store {
         if greatest < x as u64 {
             return false;
         }
+        if least == x as u64 {
+            return true;
+        }
+        if x as u64 == greatest {
+            return true;
+        }
         let shape = &self.shapes[v.0 as usize];
         let k = place_of(&shape.first, x);
         let words = self.words.as_slice();

@@ -2,28 +2,27 @@
 
 ghost use Rattle.std.specs.Prelude.{◌≡◌, ℕ, ◌+◌, ◌<◌, ◌≤◌, List, [], ◌∷◌, ◌++◌, length, slice_index, slice_set, OnOk, OnErr, All};
 
-use crate::levels::{Level, clean_level, keep, note, restore};
+use crate::levels::{Saves, mark, no_saves, save, take_back};
 use std::alloc::{AllocError, Global};
 use std::marker::Model;
 
-/// Words with marks: `undo` gives back the words of the last. What a mark needs is kept for marks to come, so that a mark and its
-/// way back cost what changed in between.
+/// Words with marks: `undo` gives back the words of the last. All marks share one list of saved words, so that a mark and its way back
+/// cost what changed in between.
 #[derive(Drop)]
 pub struct Words {
     words: Vec<u64>,
-    levels: Vec<Level>,
-    spare: Vec<Level>,
+    saves: Saves,
 }
 
 impl Model for Words {
-    ghost use Rattle.std.specs.Prelude.{length, All};
-    ghost use Rattle.un_domains.specs.Levels.{MarkedWords, marked_of, AreLevels};
+    ghost use Rattle.std.specs.Prelude.{length};
+    ghost use Rattle.un_domains.specs.Levels.{MarkedWords, marked_of, AreSaves};
 
     ghost Value = { MarkedWords };
 
-    ghost view = { λ a. record { words = a.words.items; marked = marked_of a.levels.items a.words.items } };
+    ghost view = { λ a. record { words = a.words.items; marked = marked_of a.saves a.words.items } };
 
-    ghost invariant = { λ a. AreLevels (length a.words.items) a.levels.items a.spare.items };
+    ghost invariant = { λ a. AreSaves (length a.words.items) a.saves };
 }
 
 impl Words {
@@ -36,8 +35,7 @@ impl Words {
     {
         Words {
             words,
-            levels: Vec::new(alloc),
-            spare: Vec::new(alloc),
+            saves: no_saves(alloc),
         }
     }
 
@@ -60,7 +58,7 @@ impl Words {
     pub fn marks(&self) -> usize
         ensures { result ≡ length self.now.marked }
     {
-        self.levels.len()
+        self.saves.starts.len()
     }
 
     /// Writes a word. It takes no memory, and none is saved where nothing changes.
@@ -73,20 +71,17 @@ impl Words {
         if old == word {
             return;
         }
-        note(&mut self.levels, self.words.len(), i, old);
+        save(&mut self.saves, self.words.len(), i, old);
         self.words[i] = word;
     }
 
-    /// A mark of the words as they are. Room for each of them is taken here, unless a mark that was taken back had it.
+    /// A mark of the words as they are. Room for each of them is taken here, unless a mark that was taken back left it.
     pub fn mark(&mut self, alloc: Global) -> Result<(), AllocError>
         ensures ok { OnOk result (self.new.marked ≡ self.old.marked ++ self.old.words ∷ []) }
         ensures words { self.new.words ≡ self.old.words }
         ensures err { OnErr result (self.new ≡ self.old) }
     {
-        let level = clean_level(&mut self.spare, alloc, self.words.len())?;
-        self.spare.reserve(self.levels.len() + 1)?;
-        self.levels.push(level)?;
-        Ok(())
+        mark(&mut self.saves, alloc, self.words.len())
     }
 
     /// Takes the words of the last mark back. It takes no memory, and costs what was saved since.
@@ -94,10 +89,6 @@ impl Words {
         requires { 0 < length self.old.marked }
         ensures { self.old.marked ≡ self.new.marked ++ self.new.words ∷ [] }
     {
-        if let Some(mut level) = self.levels.pop() {
-            restore(&mut self.words, &mut level);
-            // Room for it was taken with its mark.
-            keep(&mut self.spare, level);
-        }
+        take_back(&mut self.words, &mut self.saves);
     }
 }

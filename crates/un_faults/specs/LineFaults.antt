@@ -71,14 +71,14 @@ has_clash (Terminator term) = term_clashes term
 
 -- ---- counts
 
--- a 7th parameter or argument, a 17th block, an 81st operation
+-- more parameters, arguments, blocks or operations than there may be
 abbrev pub is_over_limit : Before → Line → Bool
 is_over_limit before (Func name params) = nat_lt PARAMS (length params)
 is_over_limit before (Block label freq) = nat_le BLOCKS (length before.labels)
 is_over_limit before (Operation o) = nat_lt PARAMS (length o.srcs) || nat_le OPS before.ops
 is_over_limit before _ = false
 
--- one of these, or a 41st name
+-- one of these, or more names
 abbrev pub has_too_many : Before → Line → Bool
 has_too_many before line = is_over_limit before line || nat_lt NAMES (length (numbered before.names (names_on line)))
 

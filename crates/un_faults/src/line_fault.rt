@@ -179,7 +179,7 @@ fn has_clash(line: &Line) -> bool
     }
 }
 
-/// Whether there is a 7th parameter or argument, a 17th block or an 81st operation.
+/// Whether there are more parameters, arguments, blocks or operations than there may be.
 fn is_over_limit(before: &Before, line: &Line) -> bool
     ensures { result ≡ is_over_limit before.now line.now }
 {
@@ -191,7 +191,7 @@ fn is_over_limit(before: &Before, line: &Line) -> bool
     }
 }
 
-/// Whether there is a 7th parameter or argument, a 17th block, an 81st operation or a 41st name.
+/// Whether there are more parameters, arguments, blocks, operations or names than there may be.
 fn has_too_many(alloc: Global, before: &Before, line: &Line) -> Result<bool, NoMemory>
     ensures { IfOk result (λ many. many ≡ has_too_many before.now line.now) }
 {
