@@ -12,10 +12,12 @@ use Rattle.un_ir.specs.Kinds.{is_call_kind}
 use Rattle.un_isa.specs.Registers.{callee_saved}
 use Rattle.un_ir.specs.declared.function.Kind.TheVariants.{General}
 use Rattle.un_ir.specs.declared.extended.NodeCopy.TheVariants.{D}
-use Rattle.un_ir.specs.declared.extended.ExtKind.TheVariants.{In, Out, Copy}
+use Rattle.un_ir.specs.declared.function.Term.TheVariants.{Ret}
+use Rattle.un_ir.specs.declared.extended.ExtKind.TheVariants.{In, Out, End, Copy}
 use Rattle.un_ir.specs.declared.extended.ExtBlock.{ExtBlock}
 use Rattle.un_ir.specs.declared.extended.ExtOp.{ExtOp}
 use Rattle.un_model.specs.declared.model.Model.{Model}
+use Rattle.un_model.specs.Registers.{general_registers}
 use Rattle.un_model.specs.Variables.{model_of}
 use Rattle.un_prop.specs.declared.act.Act.{Act}
 use Rattle.un_prop.specs.declared.act.Act.TheVariants.{Always, Var}
@@ -328,6 +330,7 @@ sum_befores = refl
 sum_lengths : lengths_of summing ≡
     Length (task 2 1 none ∷ end_task 10 2 ∷ []) (after 0 1 1 ∷ []) (v 10) 10
     ∷ Length (task 12 1 none ∷ end_task 16 2 ∷ []) [] (v 16) 8 ∷ []
+unfolding room_of general_registers
 sum_lengths = refl
 
 -- one propagator for the two names; none for the sum beside itself
@@ -392,7 +395,7 @@ call_clobbers = refl
 call_lengths : lengths_of calling ≡
     Length (task 1 1 (needs 1 0 0 0) ∷ call_task 4 1 2 ∷ task 6 1 (needs 1 1 0 0) ∷ end_task 10 2 ∷ [])
     (after 0 1 1 ∷ after 0 2 2 ∷ after 1 2 1 ∷ after 1 3 1 ∷ []) (v 10) 12 ∷ []
-unfolding callee_saved
+unfolding callee_saved room_of general_registers
 call_lengths = refl
 
 abbrev span : At → List At → Span
@@ -428,7 +431,7 @@ crossing =
 -- one is spilled behind Enter, so the call is in cycle 2 at the earliest; and reloaded after the call, two cycles before the end
 crossing_lengths : lengths_of crossing ≡
     Length (call_task 13 2 3 ∷ end_task 28 2 ∷ []) [] (v 28) 8 ∷ []
-unfolding callee_saved
+unfolding callee_saved room_of general_registers
 crossing_lengths = refl
 
 -- they are there from the start to the end, and nothing reads the call's result; the domains are the homes r0 to r5, of which the call
@@ -467,13 +470,79 @@ saving call =
 -- the call keeps twelve of them: the entry hands one over in a slot, behind Enter and a Spill
 saving_lengths : lengths_of (saving (op (source Op.Call (pos 0)) [] (13 ∷ []) ∷ [])) ≡
     Length (end_task 0 3 ∷ []) [] (v 0) 6 ∷ Length (call_task 14 1 1 ∷ end_task 29 2 ∷ []) [] (v 29) 8 ∷ []
-unfolding callee_saved
+unfolding callee_saved room_of general_registers
 saving_lengths = refl
 
 -- without a call it owes nothing
 kept_lengths : lengths_of (saving []) ≡ Length (end_task 0 1 ∷ []) [] (v 0) 6 ∷ Length (end_task 27 1 ∷ []) [] (v 27) 8 ∷ []
-unfolding callee_saved
+unfolding callee_saved room_of general_registers
 kept_lengths = refl
+
+-- ---- more values than registers in the cycle of an operation that is no call
+
+-- three names in the three registers that there are, a word that is loaded and one that is stored, and an end that reads some of the four
+abbrev pressed_block : List ℕ → ExtBlock
+pressed_block read = record {
+  freq = 1;
+  label = codes "p";
+  live_in = names (0 ∷ 1 ∷ 2 ∷ []);
+  live_out = names read;
+  ops =
+      op In [] (0 ∷ 1 ∷ 2 ∷ [])
+      ∷ op (source Op.Load (pos 0)) (reads (0 ∷ []) None ∷ []) (3 ∷ [])
+      ∷ op (source Op.Store (pos 0)) (reads (0 ∷ []) None ∷ reads (1 ∷ []) None ∷ []) []
+      ∷ op Out (map (λ (k : ℕ). reads (k ∷ []) None) read) [] ∷ [];
+  horizon = 12;
+}
+
+abbrev pressed : List ℕ → Model
+pressed read =
+    model_of (record { table = HEXAGON; names = General ∷ General ∷ General ∷ General ∷ []; blocks = pressed_block read ∷ [] })
+    (record { regs = Some 3; slots = 1 })
+
+-- an operation of the source, by which so many cycles are filled, and so many from it on
+abbrev asking_task : ℕ → ℕ → ℕ → Needs → Task
+asking_task n head tail uses = record { at = v n; head = head; tail = tail; needs = uses }
+
+-- all four are read at the end: in the cycle of the load, which gives one of them, and in that of the store one is in a slot, so both
+-- are behind Enter and a Spill, in cycle 2 at the earliest; the end reads slots too, so it asks for no Reload
+pressed_lengths : lengths_of (pressed (0 ∷ 1 ∷ 2 ∷ 3 ∷ [])) ≡
+    Length (asking_task 3 2 1 (needs 1 0 0 0) ∷ asking_task 6 2 1 (needs 1 1 0 0) ∷ end_task 13 3 ∷ [])
+    (after 0 1 0 ∷ after 0 2 2 ∷ []) (v 13) 12 ∷ []
+unfolding callee_saved room_of general_registers
+pressed_lengths = refl
+
+-- three are: what the store alone reads has its register until then, and is there no more where the load's result is
+eased_lengths : lengths_of (pressed (0 ∷ 2 ∷ 3 ∷ [])) ≡
+    Length (asking_task 3 1 1 (needs 1 0 0 0) ∷ asking_task 6 1 1 (needs 1 1 0 0) ∷ end_task 12 2 ∷ [])
+    (after 0 1 0 ∷ after 0 2 2 ∷ []) (v 12) 12 ∷ []
+unfolding callee_saved room_of general_registers
+eased_lengths = refl
+
+-- what the return reads is there until the last cycle, which is behind the load where the use of what it gives is: with the two that the
+-- end reads and the load's result these are four in the load's cycle, and two in that of the use, which nothing reads
+abbrev returning_block : ExtBlock
+returning_block = record {
+  freq = 1;
+  label = codes "r";
+  live_in = names (0 ∷ 1 ∷ 2 ∷ []);
+  live_out = names (0 ∷ 2 ∷ []);
+  ops =
+      op In [] (0 ∷ 1 ∷ 2 ∷ [])
+      ∷ op (source Op.Load (pos 0)) (reads (0 ∷ []) None ∷ []) (3 ∷ [])
+      ∷ op (source Op.And (pos 0)) (reads (3 ∷ []) None ∷ reads (3 ∷ []) None ∷ []) (4 ∷ [])
+      ∷ op (End (Ret None)) (reads (1 ∷ []) None ∷ []) []
+      ∷ op Out (reads (0 ∷ []) None ∷ reads (2 ∷ []) None ∷ []) [] ∷ [];
+  horizon = 12;
+}
+
+returning_lengths : lengths_of (model_of
+    (record { table = HEXAGON; names = General ∷ General ∷ General ∷ []; blocks = returning_block ∷ [] })
+    (record { regs = Some 3; slots = 1 })) ≡
+    Length (asking_task 3 2 2 (needs 1 0 0 0) ∷ asking_task 6 1 1 none ∷ task 10 1 (needs 0 0 1 1) ∷ end_task 14 3 ∷ [])
+    (after 0 1 2 ∷ []) (v 14) 12 ∷ []
+unfolding callee_saved room_of general_registers
+returning_lengths = refl
 
 -- ---- what crosses a call whether it is read before it or behind it
 

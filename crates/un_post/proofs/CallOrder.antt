@@ -2,8 +2,8 @@
 -- what is posted of calls.
 use Rattle.std.proofs.Common.{ℕ, zero, suc, ◌≡◌, ◌+◌, ◌<◌, ◌≤◌, ◌⊎◌, Bool, true, false, List, [], ◌∷◌, length, fold, inl, inr, refl, sym}
 use Rattle.std.proofs.Common.{ap, ◌∙◌, subst, arith, Contains, eq-eqb}
-use Rattle.std.specs.Prelude.{Option, Some, None, IfSome, not, ◌&&◌, ◌||◌, ◌==◌, nat_eq, slice_get, slice_index}
-use Rattle.std.specs.Prelude.{sum_by, unwrap_or, IsSomeAnd, if◌then◌else◌}
+use Rattle.std.specs.Prelude.{Option, Some, None, IfSome, not, ◌&&◌, ◌||◌, ◌==◌, nat_eq, nat_lt, slice_get, slice_index}
+use Rattle.std.specs.Prelude.{sum_by, if◌then◌else◌}
 use Rattle.std.proofs.lemmas.Bool.Decides.{nat_tests}
 use Rattle.std.proofs.lemmas.List.Sums.{sum_by-cons}
 use Rattle.un_isa.specs.Fit.{IsFit}
@@ -14,7 +14,7 @@ use Rattle.un_isa.specs.Does.{is_transfer, is_control}
 use Rattle.un_isa.proofs.DoesLaws.{transfer_control}
 use Rattle.un_ir.specs.declared.function.Term.{Term}
 use Rattle.un_ir.specs.declared.function.Term.TheVariants.{Fall, Jump, Branch, Ret}
-use Rattle.un_ir.specs.Linear.{is_in}
+use Rattle.un_ir.specs.Linear.{is_in, is_out}
 use Rattle.un_ir.specs.declared.extended.ExtKind.{ExtKind}
 use Rattle.un_ir.specs.declared.extended.ExtKind.TheVariants.{In, Out, Body, End, Copy, Enter, Leave}
 use Rattle.un_ir.specs.declared.extended.ExtBlock.{ExtBlock}
@@ -38,17 +38,20 @@ use Rattle.un_model.specs.Schedules.{schedule_of, issues_of, value_by, cycle_by}
 use Rattle.un_model.specs.Solutions.{share_of, IsSchedule, IsPlaced, IsPlacedAs, IsLast, latency_gap, after_write, memory_distance}
 use Rattle.un_model.specs.Variables.{model_of, arcs_of, blocks_temps, block_count, ops_count, var_at}
 use Rattle.un_model.proofs.ArcsKept.{KeepsArc, arcs_kept}
-use Rattle.un_model.proofs.Lists.{Member, each_member, index_get, place_of as position_of}
+use Rattle.un_model.proofs.Lists.{Member, each_member, any_of, member_map_of, index_get, place_of as position_of}
 use Rattle.un_model.proofs.Operations.{placed_is}
 use Rattle.un_model.proofs.Placed.{Placed, Region, region_placed, vars_of, issue_at}
 use Rattle.un_model.proofs.PlacedSchedules.{all, issue_here, each_issue}
 use Rattle.un_kinds.specs.Constraints.{AllMet}
-use Rattle.un_ir.specs.Kinds.{is_call_kind, ends_block}
-use Rattle.un_sites.specs.Rooms.{led_by, reached, arcs_or, clobbers_of}
-use Rattle.un_post.proofs.Blocks.{blocks, in_all, past, region_close}
+use Rattle.un_ir.specs.Kinds.{is_call_kind, is_source, ends_block}
+use Rattle.un_sites.specs.Crossings.{has_follower, is_after}
+use Rattle.un_sites.specs.Places.{Place}
+use Rattle.un_sites.specs.Rooms.{led_by, reached, waits_by, waiting, is_before, arcs_or, clobbers_of}
+use Rattle.un_post.proofs.Blocks.{blocks, region_places, in_all, past, region_close}
 use Rattle.un_post.proofs.Facts.{Given}
+use Rattle.un_post.proofs.Placing.{place_of}
 use Rattle.un_post.proofs.Packets.{no_room, share, sum_part, whole_taken}
-use Rattle.un_post.proofs.Regions.{regions, of_region}
+use Rattle.un_post.proofs.Regions.{regions, of_region, out_is}
 use Rattle.un_post.proofs.Spared.{Ordered, spared, call_instr}
 use Rattle.un_post.proofs.Tests.{and_iff}
 
@@ -70,6 +73,34 @@ leads P (a ∷ arcs) from step start n h =
       where
         last : (t : Bool) → nat_eq k a.to.0 ≡ t → (nat_eq k a.to.0 || has from k) ≡ true → P k
         last true same there = let is : a.to.0 ≡ k = grind (arith, nat_tests, same) in subst P is (step a (inl refl) (start a.from.0 e))
+        last false same there = start k (subst (λ (t : Bool). (t || has from k) ≡ true) same there)
+
+-- what is known of what is reached, and is by a gap known of what waits, is known of all that waits
+waits : (P Q : ℕ → Type 0) (near : List ℕ) (arcs : List Arc) (from : List ℕ)
+    → ((a : Arc) → Member a arcs → Q a.from.0 → Q a.to.0) → ((a : Arc) → Member a arcs → 0 < a.gap → P a.from.0 → Q a.to.0)
+    → ((n : ℕ) → has near n ≡ true → P n) → ((n : ℕ) → has from n ≡ true → Q n)
+    → (n : ℕ) → has (fold (waits_by near) from arcs) n ≡ true → Q n
+waits P Q near [] from on begin reached start n h = start n h
+waits P Q near (a ∷ arcs) from on begin reached start n h =
+    waits P Q near arcs (waits_by near from a) (λ b m. on b (inr m)) (λ b m. begin b (inr m)) reached
+    (λ k there. by (has from a.from.0 || (nat_lt 0 a.gap && has near a.from.0)) refl k there) n h
+  where
+    led : (has from a.from.0 || (nat_lt 0 a.gap && has near a.from.0)) ≡ true → Q a.to.0
+    led e = two (has from a.from.0) refl e
+      where
+        two : (t : Bool) → has from a.from.0 ≡ t → (t || (nat_lt 0 a.gap && has near a.from.0)) ≡ true → Q a.to.0
+        two true same e = on a (inl refl) (start a.from.0 same)
+        two false same e =
+            let both = (and_iff (nat_lt 0 a.gap) (has near a.from.0)).1 e in
+            begin a (inl refl) (let t = both.0 in grind (arith, nat_tests, t)) (reached a.from.0 both.1)
+
+    by : (t : Bool) → (has from a.from.0 || (nat_lt 0 a.gap && has near a.from.0)) ≡ t → (k : ℕ)
+        → has (if has from a.from.0 || (nat_lt 0 a.gap && has near a.from.0) then a.to.0 ∷ from else from) k ≡ true → Q k
+    by false e k there = start k (subst (λ (t : Bool). has (if t then a.to.0 ∷ from else from) k ≡ true) e there)
+    by true e k there = last (nat_eq k a.to.0) refl (subst (λ (t : Bool). has (if t then a.to.0 ∷ from else from) k ≡ true) e there)
+      where
+        last : (t : Bool) → nat_eq k a.to.0 ≡ t → (nat_eq k a.to.0 || has from k) ≡ true → Q k
+        last true same there = let is : a.to.0 ≡ k = grind (arith, nat_tests, same) in subst Q is (led e)
         last false same there = start k (subst (λ (t : Bool). (t || has from k) ≡ true) same there)
 
 -- ---- the arcs of a block
@@ -191,12 +222,14 @@ module _ (e : Ext) (o : Options) (x : List ℕ) (given : Given e o x)
         let gap = is.gap in
         call_gap e.table given.fit (reads_from temps a.from.0 is.to) is.from is.to a.gap instr gap.asked
 
+    -- what operation n is issues no earlier than some cycles after operation d
+    abbrev Behind : Placed → ℕ → ℕ → Type 0
+    Behind d gap n = (i : Issue) → slice_get (issues_of (model_of e o) x) n ≡ Some i → (issue_at x d).cycle + gap ≤ i.cycle
+
     -- an operation that another one reaches does not issue before it
-    not_before : (d c : Placed) → Member d (region_placed r) → Member c (region_placed r) → has (reached arcs d.number) c.number ≡ true
-        → (issue_at x d).cycle ≤ (issue_at x c).cycle
-    not_before d c md mc h =
-        let P = λ (n : ℕ). (i : Issue) → slice_get (issues_of (model_of e o) x) n ≡ Some i → (issue_at x d).cycle ≤ i.cycle in
-        leads P arcs (d.number ∷ []) (λ a ma hp i hi.
+    reached_behind : (d : Placed) → Member d (region_placed r) → (n : ℕ) → has (reached arcs d.number) n ≡ true → Behind d 0 n
+    reached_behind d md n h =
+        leads (Behind d 0) arcs (d.number ∷ []) (λ a ma hp i hi.
         let k = kept a ma in
         let gap = k.kept in
         let from = hp k.earlier k.from_at in
@@ -208,7 +241,7 @@ module _ (e : Ext) (o : Options) (x : List ℕ) (given : Given e o x)
         let num : d.number ≡ n = first_of d.number n there in
         let c = cycle_at d md i (ap (slice_get (issues_of (model_of e o) x)) num ∙ hi) in
         omega arith)
-        c.number h (issue_at x c) (issue_here e o x c (in_all e o x r c mr mc))
+        n h
       where
         first_of : (a n : ℕ) → (nat_eq n a || false) ≡ true → a ≡ n
         first_of a n h = by (nat_eq n a) refl h
@@ -216,6 +249,30 @@ module _ (e : Ext) (o : Options) (x : List ℕ) (given : Given e o x)
             by : (t : Bool) → nat_eq n a ≡ t → (t || false) ≡ true → a ≡ n
             by true e h = grind (arith, nat_tests, e)
             by false e h = absurd (cc h)
+
+    not_before : (d c : Placed) → Member d (region_placed r) → Member c (region_placed r) → has (reached arcs d.number) c.number ≡ true
+        → (issue_at x d).cycle ≤ (issue_at x c).cycle
+    not_before d c md mc h =
+        let le = reached_behind d md c.number h (issue_at x c) (issue_here e o x c (in_all e o x r c mr mc)) in
+        omega (arith, le)
+
+    -- one that waits for it issues after it
+    waits_behind : (c q : Placed) → Member c (region_placed r) → Member q (region_placed r) → has (waiting arcs c.number) q.number ≡ true
+        → (issue_at x c).cycle + 1 ≤ (issue_at x q).cycle
+    waits_behind c q mc mq h =
+        waits (Behind c 0) (Behind c 1) (reached arcs c.number) arcs [] (λ a ma hp i hi. over a ma 1 1 (omega arith) hp i hi)
+        (λ a ma some hp i hi. over a ma 0 1 (omega (arith, some)) hp i hi) (λ n near. reached_behind c mc n near) (λ n none. absurd (cc none))
+        q.number h (issue_at x q) (issue_here e o x q (in_all e o x r q mr mq))
+      where
+        over : (a : Arc) → Member a arcs → (g m : ℕ) → m ≤ g + a.gap → Behind c g a.from.0 → Behind c m a.to.0
+        over a ma g m le hp i hi =
+            let k = kept a ma in
+            let gap = k.kept in
+            let from = hp k.earlier k.from_at in
+            let same : Some k.later ≡ Some i = sym k.to_at ∙ hi in
+            let is : k.later ≡ i = cc same in
+            let cycle : k.later.cycle ≡ i.cycle = ap (λ (i : Issue). i.cycle) is in
+            omega (arith, le, gap, from, cycle)
 
     -- another one that a call reaches issues after it
     later : (c q : Placed) → Member c (region_placed r) → Member q (region_placed r) → is_call_kind c.op.kind ≡ true
@@ -258,20 +315,22 @@ module _ (e : Ext) (o : Options) (x : List ℕ) (given : Given e o x)
         let there = subst (λ (i : Option Op). IfSome i (IsPlacedAs (issue_at x c).cycle (issue_at x c).end)) instr placed in
         there.0.1
 
-    -- a transfer issues after a call: it takes the last cycle, and a packet has room for one of both
+    -- a transfer takes the last cycle
+    transfer_last : (q : Placed) → Member q (region_placed r) → (op : Op) → (issue_at x q).instr ≡ Some op → is_transfer op ≡ true
+        → (issue_at x q).cycle + 1 ≡ (issue_at x q).end
+    transfer_last q mq op instr transfer =
+        let latencies = schedule.latencies in
+        let placed = each_member (λ q. IsPlaced (issue_at x q)) (all e o x) q (each_issue e o x IsPlaced latencies.0)
+        (in_all e o x r q mr mq) in
+        let there = subst (λ (i : Option Op). IfSome i (IsPlacedAs (issue_at x q).cycle (issue_at x q).end)) instr placed in
+        subst (IsLast (issue_at x q).cycle (issue_at x q).end) transfer there.1
+
+    -- a transfer issues after a call: a packet has room for one of both
     transfer_after : (c q : Placed) → Member c (region_placed r) → Member q (region_placed r) → is_call_kind c.op.kind ≡ true
         → (op : Op) → (issue_at x q).instr ≡ Some op → is_transfer op ≡ true → is_call_kind q.op.kind ≡ false
         → (issue_at x c).cycle + 1 ≤ (issue_at x q).cycle
     transfer_after c q mc mq call op instr transfer other = by (nat_eq (issue_at x c).cycle (issue_at x q).cycle) refl
       where
-        last : (issue_at x q).cycle + 1 ≡ (issue_at x q).end
-        last =
-            let latencies = schedule.latencies in
-            let placed = each_member (λ q. IsPlaced (issue_at x q)) (all e o x) q (each_issue e o x IsPlaced latencies.0)
-            (in_all e o x r q mr mq) in
-            let there = subst (λ (i : Option Op). IfSome i (IsPlacedAs (issue_at x q).cycle (issue_at x q).end)) instr placed in
-            subst (IsLast (issue_at x q).cycle (issue_at x q).end) transfer there.1
-
         same_end : (issue_at x c).end ≡ (issue_at x q).end
         same_end = ap (λ (v : VarId). slice_index x v.0) (sym (region_close r c mc) ∙ region_close r q mq)
 
@@ -309,7 +368,7 @@ module _ (e : Ext) (o : Options) (x : List ℕ) (given : Given e o x)
         by true e = absurd (crowded (let is : (issue_at x c).cycle ≡ (issue_at x q).cycle = grind (arith, nat_tests, e) in is))
         by false e =
             let lt = inside c mc call in
-            let a = last in
+            let a = transfer_last q mq op instr transfer in
             let b = same_end in
             let apart : (issue_at x c).cycle ≡ (issue_at x q).cycle
             → ⊥ = λ s. (let t : nat_eq (issue_at x c).cycle (issue_at x q).cycle ≡ true = grind (arith, nat_tests, s) in
@@ -346,6 +405,99 @@ module _ (e : Ext) (o : Options) (x : List ℕ) (given : Given e o x)
         by (Copy node) k h = absurd (cc h)
         by Enter k h = absurd (cc h)
         by Leave k h = absurd (cc h)
+
+    -- what has issued by an operation's cycle, whatever the cycles are
+    pub issued_by : (d c : Placed) → Member d (region_placed r) → Member c (region_placed r)
+        → is_before arcs (place_of d) (place_of c) ≡ true → (issue_at x d).cycle ≤ (issue_at x c).cycle
+    issued_by d c md mc h = by (is_in d.op.kind) refl h
+      where
+        by : (t : Bool) → is_in d.op.kind ≡ t → (t || has (reached arcs d.number) c.number) ≡ true
+            → (issue_at x d).cycle ≤ (issue_at x c).cycle
+        by true k h = let z = start_cycle d.op.kind x (issue_at x d).end (vars_of d) k in omega (arith, z)
+        by false k h = not_before d c md mc h
+
+    -- an operation of the source issues before its block's end
+    source_inside : (c : Placed) → Member c (region_placed r) → is_source c.op.kind ≡ true → (issue_at x c).cycle < (issue_at x c).end
+    source_inside c mc source = by c.op.kind refl source
+      where
+        by : (kind : ExtKind) → c.op.kind ≡ kind → is_source kind ≡ true → (issue_at x c).cycle < (issue_at x c).end
+        by (Body so) k h =
+            let v = vars_of c in
+            let latencies = schedule.latencies in
+            let placed = each_member (λ q. IsPlaced (issue_at x q)) (all e o x) c (each_issue e o x IsPlaced latencies.0)
+            (in_all e o x r c mr mc) in
+            let instr : (issue_at x c).instr ≡ Some so.op = ap (λ (k : ExtKind). instruction_of k (value_by x v.instr)) k in
+            let there = subst (λ (i : Option Op). IfSome i (IsPlacedAs (issue_at x c).cycle (issue_at x c).end)) instr placed in
+            there.0.1
+        by In k h = absurd (cc h)
+        by Out k h = absurd (cc h)
+        by (End term) k h = absurd (cc h)
+        by (Copy node) k h = absurd (cc h)
+        by Enter k h = absurd (cc h)
+        by Leave k h = absurd (cc h)
+
+    -- what issues after it, whatever the cycles are
+    pub issued_after : (c q : Placed) → Member c (region_placed r) → Member q (region_placed r) → is_source c.op.kind ≡ true
+        → is_after arcs (region_places r) (place_of c) (place_of q) ≡ true → (issue_at x c).cycle + 1 ≤ (issue_at x q).cycle
+    issued_after c q mc mq source h = by (has_follower arcs (region_places r) (place_of c)) refl h
+      where
+        same_end : (p : Placed) → Member p (region_placed r) → (issue_at x p).end ≡ (issue_at x q).end
+        same_end p mp = ap (λ (v : VarId). slice_index x v.0) (sym (region_close r p mp) ∙ region_close r q mq)
+
+        at_end : q.op.kind ≡ Out → (issue_at x c).cycle + 1 ≤ (issue_at x q).cycle
+        at_end k =
+            let v = vars_of q in
+            let z : (issue_at x q).cycle ≡ (issue_at x q).end = ap (λ (k : ExtKind). cycle_by x (issue_at x q).end k v) k in
+            let lt = source_inside c mc source in
+            let same = same_end c mc in
+            omega (arith, z, lt, same)
+
+        -- a transfer takes the last cycle, and what waits for c issues before the end
+        transfer : (term : Term) (op : Op) → q.op.kind ≡ End term → transfer_of term ≡ Some op → is_transfer op ≡ true
+            → has_follower arcs (region_places r) (place_of c) ≡ true → (issue_at x c).cycle + 1 ≤ (issue_at x q).cycle
+        transfer term op k t is some =
+            let v = vars_of q in
+            let instr : (issue_at x q).instr ≡ Some op = ap (λ (k : ExtKind). instruction_of k (value_by x v.instr)) k ∙ t in
+            let f = any_of (λ (p : Place). is_source p.it.kind && has (waiting arcs c.number) p.op) (region_places r) some in
+            let p = member_map_of place_of (region_placed r) f.0 f.1 in
+            let told : (is_source p.0.op.kind && has (waiting arcs c.number) p.0.number) ≡ true =
+            ap (λ (p : Place). is_source p.it.kind && has (waiting arcs c.number) p.op) p.2 ∙ f.2 in
+            let both = (and_iff (is_source p.0.op.kind) (has (waiting arcs c.number) p.0.number)).1 told in
+            let later = waits_behind c p.0 mc p.1 both.1 in
+            let before = source_inside p.0 p.1 both.0 in
+            let same = same_end p.0 p.1 in
+            let last = transfer_last q mq op instr is in
+            omega (arith, later, before, same, last)
+
+        ends : (kind : ExtKind) → q.op.kind ≡ kind → ends_block kind ≡ true → has_follower arcs (region_places r) (place_of c) ≡ true
+            → (issue_at x c).cycle + 1 ≤ (issue_at x q).cycle
+        ends Out k h some = at_end k
+        ends (End Fall) k h some = absurd (cc h)
+        ends (End (Jump to)) k h some = transfer (Jump to) _ k refl refl some
+        ends (End (Branch pred true to)) k h some = transfer (Branch pred true to) _ k refl refl some
+        ends (End (Branch pred false to)) k h some = transfer (Branch pred false to) _ k refl refl some
+        ends (End (Ret value)) k h some = transfer (Ret value) _ k refl refl some
+        ends In k h some = absurd (cc h)
+        ends (Body so) k h some = absurd (cc h)
+        ends (Copy node) k h some = absurd (cc h)
+        ends Enter k h some = absurd (cc h)
+        ends Leave k h some = absurd (cc h)
+
+        by : (t : Bool) → has_follower arcs (region_places r) (place_of c) ≡ t
+            → ((if t then ends_block q.op.kind else is_out q.op.kind) || has (waiting arcs c.number) q.number) ≡ true
+            → (issue_at x c).cycle + 1 ≤ (issue_at x q).cycle
+        by true some h = with_end (ends_block q.op.kind) refl h
+          where
+            with_end : (t : Bool) → ends_block q.op.kind ≡ t → (t || has (waiting arcs c.number) q.number) ≡ true
+                → (issue_at x c).cycle + 1 ≤ (issue_at x q).cycle
+            with_end true k h = ends q.op.kind refl k some
+            with_end false k h = waits_behind c q mc mq h
+        by false none h = with_out (is_out q.op.kind) refl h
+          where
+            with_out : (t : Bool) → is_out q.op.kind ≡ t → (t || has (waiting arcs c.number) q.number) ≡ true
+                → (issue_at x c).cycle + 1 ≤ (issue_at x q).cycle
+            with_out true k h = at_end (out_is q.op.kind k)
+            with_out false k h = waits_behind c q mc mq h
 
     pub ordered : Ordered x r arcs
     ordered = record {

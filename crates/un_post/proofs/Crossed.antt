@@ -1,10 +1,12 @@
--- Which values cross a call in a solution, and that the call issues behind their Spills and before their Reloads.
+-- Which values are kept over an operation in a solution: those that cross a call, and those that are there in another operation's cycle
+-- and are read after it. It issues behind their Spills and before their Reloads.
 use Rattle.std.proofs.Common.{ℕ, zero, suc, ◌≡◌, ◌<◌, ◌≤◌, ◌+◌, ◌-◌, ◌/◌, Bool, true}
 use Rattle.std.proofs.Common.{false, cond, List, [], ◌∷◌, ◌++◌, length, map, filter, inl, inr}
 use Rattle.std.proofs.Common.{◌⊎◌, refl, sym, ap, ◌∙◌, subst, arith, eq-eqb}
-use Rattle.std.specs.Prelude.{Option, Some, None, not, ◌&&◌, ◌||◌, ◌==◌, slice_get, slice_index, is_some, if◌then◌else◌}
+use Rattle.std.specs.Prelude.{Option, Some, None, not, nat_lt, ◌&&◌, ◌||◌, ◌==◌, slice_get, slice_index, is_some, if◌then◌else◌}
 use Rattle.std.specs.List.{list_any, range_with_len}
 use Rattle.std.proofs.lemmas.Bool.{eqb-true, cases_lt}
+use Rattle.std.proofs.lemmas.Bool.Decides.{nat_tests}
 use Rattle.std.proofs.lemmas.List.Elements.{filter-append}
 use Rattle.un_base.specs.declared.ids.TempId.{TempId}
 use Rattle.un_base.specs.declared.ids.VarId.{VarId}
@@ -12,6 +14,7 @@ use Rattle.un_isa.specs.Registers.{callee_saved}
 use Rattle.un_isa.specs.Tables.{latency_of}
 use Rattle.un_isa.specs.declared.op.Op.TheVariants.{Reload}
 use Rattle.un_isa.specs.declared.reg.Reg.{Reg}
+use Rattle.un_isa.specs.declared.reg.TheConstants.{FIRST_SLOT}
 use Rattle.un_ir.specs.declared.function.Term.{Term}
 use Rattle.un_ir.specs.declared.function.Term.TheVariants.{Fall, Jump, Branch, Ret}
 use Rattle.un_ir.specs.Extended.{temp, all_results, wants_of}
@@ -30,7 +33,7 @@ use Rattle.un_model.specs.Schedules.{schedule_of, issues_of, value_by}
 use Rattle.un_model.specs.Solutions.{IsSchedule, latency_gap}
 use Rattle.un_model.specs.Variables.{model_of, arcs_of}
 use Rattle.un_model.proofs.Lists.{Each, Pairwise, Member, each_of, each_member, pairwise_more, member_append_right}
-use Rattle.un_model.proofs.Lists.{each_map, member_map_of, member_of_filter, any_of, place_of as position_of}
+use Rattle.un_model.proofs.Lists.{each_map, member_map_of, member_filter, member_of_filter, any_of, place_of as position_of}
 use Rattle.un_model.proofs.Lists.{pairwise_of_map, pairwise_map, pairwise_filter, pairwise_append_left, pairwise_append_right, member_map}
 use Rattle.un_model.proofs.Placed.{Placed, Region, region_placed, vars_of, issue_at}
 use Rattle.un_model.proofs.Placed.{Spot, spot, spots_of, all_spots, issues_are, results_are}
@@ -38,25 +41,27 @@ use Rattle.un_model.proofs.PlacedSchedules.{all, spots, one_spot, member_joined,
 use Rattle.un_model.proofs.Readings.{Solved}
 use Rattle.un_press.specs.Accesses.{Spills, Reloads}
 use Rattle.un_press.proofs.Counting.{Differ, length_mapped}
-use Rattle.un_press.proofs.Crossings.{Crossing}
+use Rattle.un_press.proofs.Crossings.{Crossing, HasRegister, call_keeps, reg_of, spot_in, spot_member, spot_block}
 use Rattle.un_press.proofs.Descent.{cycle_at, Reader}
 use Rattle.un_press.proofs.Kept.{saved_cover, entry_starts}
 use Rattle.un_press.proofs.Premises.{source_needs, end_needs, home_needs}
 use Rattle.un_press.proofs.Reloading.{NeedsRegister, Wanted, ReloadedAfter, reload_copies, must_reload}
 use Rattle.un_press.proofs.Spilling.{Saved, Several, SpilledBy, spill_copies, must_spill}
-use Rattle.un_sites.specs.Lengths.{head_by, tail_by}
-use Rattle.un_sites.specs.Places.{Place}
-use Rattle.un_sites.specs.Rooms.{arcs_or, is_behind, temps_in}
+use Rattle.un_sites.specs.Lengths.{is_full, is_asking, head_by, tail_by}
+use Rattle.un_sites.specs.Places.{Place, definers_of}
+use Rattle.un_sites.specs.Pressures.{block_room, registers_among}
+use Rattle.un_sites.specs.Rooms.{arcs_or, is_before, is_behind, temps_in}
 use Rattle.un_sites.specs.Crossings.{is_register_home, is_asked, reads_value, is_ahead, is_loose, is_carried, handed, crossing, is_crossing}
-use Rattle.un_sites.specs.Crossings.{spills_at, reloads_at}
+use Rattle.un_sites.specs.Crossings.{is_free, is_after, alive, kept_over, kept_at, spills_at, reloads_at}
 use Rattle.un_sites.proofs.Carrying.{GivesOthers, GiveNone, IsEarlyOrLate, Carrying, carrying}
 use Rattle.un_post.proofs.Blocks.{blocks, region_places, in_all, stands_in, region_close}
 use Rattle.un_post.proofs.BlockTemps.{region_spots, definer_in, spot_all, spots_by_blocks, results_are as temps_are}
-use Rattle.un_post.proofs.CallOrder.{ordered}
+use Rattle.un_post.proofs.CallOrder.{ordered, issued_by, issued_after}
 use Rattle.un_post.proofs.Facts.{Given, numbered, reading}
 use Rattle.un_post.proofs.Filling.{none_of, several_or_none, several_more}
 use Rattle.un_post.proofs.OneEnter.{filter_map}
 use Rattle.un_post.proofs.Placing.{place_of}
+use Rattle.un_post.proofs.RoomOfBlocks.{has_room}
 use Rattle.un_post.proofs.Regions.{of_region}
 use Rattle.un_post.proofs.Spared.{Ordered}
 use Rattle.un_post.proofs.Tests.{and_iff}
@@ -133,6 +138,23 @@ source_mandatory (End term) h = absurd (cc h)
 source_mandatory (Copy node) h = absurd (cc h)
 source_mandatory Enter h = absurd (cc h)
 source_mandatory Leave h = absurd (cc h)
+
+call_source : (kind : ExtKind) → is_call_kind kind ≡ true → is_source kind ≡ true
+call_source (Body so) h = refl
+call_source In h = absurd (cc h)
+call_source Out h = absurd (cc h)
+call_source (End term) h = absurd (cc h)
+call_source (Copy node) h = absurd (cc h)
+call_source Enter h = absurd (cc h)
+call_source Leave h = absurd (cc h)
+
+-- what asks for Spills or Reloads is an operation of the source
+pub asking_source : (room : ℕ) (ps : List Place) (p : Place) → is_asking room ps p ≡ true → is_source p.it.kind ≡ true
+asking_source room ps p h = by (is_call_kind p.it.kind) refl h
+  where
+    by : (t : Bool) → is_call_kind p.it.kind ≡ t → (t || (is_source p.it.kind && is_full room ps)) ≡ true → is_source p.it.kind ≡ true
+    by true call h = call_source p.it.kind call
+    by false call h = ((and_iff (is_source p.it.kind) (is_full room ps)).1 h).0
 
 -- what an operation of the source reads is in a register
 source_asked : (b : Bool) (kind : ExtKind) (y : Operand) → is_source kind ≡ true → is_asked b kind y ≡ true
@@ -229,19 +251,35 @@ module _ (e : Ext) (o : Options) (x : List ℕ) (given : Given e o x)
       by Enter f t = absurd (cc t)
       by Leave f t = absurd (cc t)
 
-  module _ (r : Region) (mr : Member r (blocks e o x)) (c : Placed) (mc : Member c (region_placed r))
-      (call : is_call_kind c.op.kind ≡ true) where
-    abbrev arcs : List Arc
-    arcs = arcs_or (slice_get (arcs_of e) r.block)
+  -- What tests of the operations of a block say of the cycle of operation c: these have issued by then, these issue later, and these
+  -- others of the source do either. What a call gives is not there in its own cycle.
+  pub record Sides (r : Region) (c : Placed) (early late loose : Place → Bool) : Type 0 where
+    pub by : (d : Placed) → Member d (region_placed r) → early (place_of d) ≡ true → (issue_at x d).cycle ≤ (issue_at x c).cycle
+    pub other : (d : Placed) → Member d (region_placed r) → early (place_of d) ≡ true → is_call_kind c.op.kind ≡ true
+        → d.number ≡ c.number → ⊥
+    pub after : (q : Placed) → Member q (region_placed r) → late (place_of q) ≡ true → (issue_at x c).cycle + 1 ≤ (issue_at x q).cycle
+    pub source : (q : Placed) → loose (place_of q) ≡ true → is_source q.op.kind ≡ true
+    pub apart : (q : Placed) → loose (place_of q) ≡ true → is_call_kind c.op.kind ≡ true → q.number ≡ c.number → ⊥
+    pub rest : (q : Placed) → loose (place_of q) ≡ true → early (place_of q) ≡ true → ⊥
+
+  -- such tests, with the registers in which what is kept over operation c may be
+  pub record Keeping (r : Region) (c : Placed) : Type 0 where
+    pub early : Place → Bool
+    pub late : Place → Bool
+    pub loose : Place → Bool
+    pub sides : Sides r c early late loose
+    pub kept : List ℕ
+    pub has : HasRegister e o x solved c kept
+
+  module _ (r : Region) (mr : Member r (blocks e o x)) (c : Placed) (mc : Member c (region_placed r)) (keep : Keeping r c) where
+    abbrev sides : Sides r c keep.early keep.late keep.loose
+    sides = keep.sides
 
     abbrev ahead : Placed → Bool
-    ahead q = is_ahead arcs (place_of c) (place_of q)
+    ahead q = keep.early (place_of q)
 
     abbrev behind : List Place
-    behind = filter (is_behind arcs (place_of c)) (region_places r)
-
-    pub order : Ordered x r arcs
-    order = ordered e o x given schedule r mr
+    behind = filter keep.late (region_places r)
 
     all_c : Member c (all e o x)
     all_c = in_all e o x r c mr mc
@@ -252,10 +290,10 @@ module _ (e : Ext) (o : Options) (x : List ℕ) (given : Given e o x)
         (member_map spots_of (region_placed r) q m) (member_places (spot q) q.op.results 0 k k t (omega arith) at)
 
     abbrev loose : Placed → Bool
-    loose q = is_loose arcs (place_of c) (place_of q)
+    loose q = keep.loose (place_of q)
 
     abbrev free : List Place
-    free = filter (is_loose arcs (place_of c)) (region_places r)
+    free = filter keep.loose (region_places r)
 
     -- ---- the values
 
@@ -265,9 +303,12 @@ module _ (e : Ext) (o : Options) (x : List ℕ) (given : Given e o x)
     abbrev pub crossing_spots : Bool → List Spot
     crossing_spots b = filter (λ (s : Spot). crosses b s.temp.0) (filter (by_definer ahead) (region_spots r))
 
-    values_are : (b : Bool) → crossing b arcs (region_places r) (place_of c) ≡ map (λ (s : Spot). s.temp) (crossing_spots b)
+    abbrev pub over : Bool → List TempId
+    over b = filter (is_crossing b behind free) (temps_in (filter keep.early (region_places r)))
+
+    values_are : (b : Bool) → over b ≡ map (λ (s : Spot). s.temp) (crossing_spots b)
     values_are b =
-        ap (λ ps. filter (is_crossing b behind free) (temps_in ps)) (filter_map (is_ahead arcs (place_of c)) place_of (region_placed r))
+        ap (λ ps. filter (is_crossing b behind free) (temps_in ps)) (filter_map keep.early place_of (region_placed r))
         ∙ ap (filter (is_crossing b behind free)) (temps_are (filter ahead (region_placed r)))
         ∙ ap (λ ss. filter (is_crossing b behind free) (map (λ (s : Spot). s.temp) ss)) (spots_filter ahead (region_placed r))
         ∙ filter_map (is_crossing b behind free) (λ (s : Spot). s.temp) (filter (by_definer ahead) (region_spots r))
@@ -282,15 +323,15 @@ module _ (e : Ext) (o : Options) (x : List ℕ) (given : Given e o x)
 
     -- ---- what is there, and what is read
 
-    -- a value that is there in the call's cycle and is not its result
+    -- a value that is there in the operation's cycle, and no call's result in its own
     pub record There (n : ℕ) : Type 0 where
       own : Spot
       member : Member own (region_spots r)
       is : own.temp ≡ temp n
       early : cycle_at e o x solved own.definer ≤ cycle_at e o x solved c
-      other : own.definer.number ≡ c.number → ⊥
+      other : is_call_kind c.op.kind ≡ true → own.definer.number ≡ c.number → ⊥
 
-    -- what reads a value after the call's cycle
+    -- what reads a value after the operation's cycle
     pub record After (b : Bool) (n : ℕ) : Type 0 where
       user : Placed
       of_block : Member user (region_placed r)
@@ -302,32 +343,32 @@ module _ (e : Ext) (o : Options) (x : List ℕ) (given : Given e o x)
       reads : first_of operand.alts ≡ n
       asked : is_asked b user.op.kind operand ≡ true
 
-    -- what is ahead of the call is there
+    -- what has issued by then is there
     there_ahead : (s : Spot) → Member s (region_spots r) → ahead s.definer ≡ true → There s.temp.0
     there_ahead s m t =
-        let two = (and_iff (not (s.definer.number == c.number)) _).1 t in
+        let md = definer_in (region_placed r) s m in
         record {
           own = s;
           member = m;
           is = refl;
-          early = order.before s.definer c (definer_in (region_placed r) s m) mc call two.1;
-          other = not_same s.definer.number c.number two.0;
+          early = sides.by s.definer md t;
+          other = sides.other s.definer md t;
         }
 
-    -- what is behind it reads later
+    -- what issues later reads later
     pub after_behind : (b : Bool) (n : ℕ) → list_any (reads_value b n) behind ≡ true → After b n
     after_behind b n h =
         let read = any_of (reads_value b n) behind h in
-        let of_behind = member_of_filter (is_behind arcs (place_of c)) (region_places r) read.0 read.1 in
+        let of_behind = member_of_filter keep.late (region_places r) read.0 read.1 in
         let q = member_map_of place_of (region_placed r) read.0 of_behind.0 in
-        let after : is_behind arcs (place_of c) (place_of q.0) ≡ true = ap (is_behind arcs (place_of c)) q.2 ∙ of_behind.1 in
+        let after : keep.late (place_of q.0) ≡ true = ap keep.late q.2 ∙ of_behind.1 in
         let told : reads_value b n (place_of q.0) ≡ true = ap (reads_value b n) q.2 ∙ read.2 in
         let test = λ (y : Operand). first_of y.alts == n && is_asked b q.0.op.kind y in
         let two = (and_iff (is_mandatory q.0.op.kind) (list_any test q.0.op.operands)).1 told in
         let y = any_of test q.0.op.operands two.1 in
         let both = (and_iff (first_of y.0.alts == n) (is_asked b q.0.op.kind y.0)).1 y.2 in
         let k = position_of q.0.op.operands y.0 y.1 in
-        let le = order.behind c q.0 mc q.1 call after in
+        let le = sides.after q.0 q.1 after in
         record {
           user = q.0;
           of_block = q.1;
@@ -346,9 +387,9 @@ module _ (e : Ext) (o : Options) (x : List ℕ) (given : Given e o x)
     between = filter loose (region_placed r)
 
     free_are : free ≡ map place_of between
-    free_are = filter_map (is_loose arcs (place_of c)) place_of (region_placed r)
+    free_are = filter_map keep.loose place_of (region_placed r)
 
-    -- an operation between issues by the call's cycle or after it
+    -- an operation between issues by that cycle or after it
     early_or_late : (b : Bool) (q : Placed) → Member q between → IsEarlyOrLate b behind There (After b) (after_behind b) (place_of q)
     early_or_late b q m = by (cases_lt (cycle_at e o x solved c) (cycle_at e o x solved q))
       where
@@ -359,10 +400,7 @@ module _ (e : Ext) (o : Options) (x : List ℕ) (given : Given e o x)
         is = (member_of_filter loose (region_placed r) q m).1
 
         source : is_source q.op.kind ≡ true
-        source = ((and_iff (is_source q.op.kind) _).1 is).0
-
-        other : not (q.number == c.number) ≡ true
-        other = ((and_iff (not (q.number == c.number)) (not (ahead q))).1 ((and_iff (is_source q.op.kind) _).1 is).1).0
+        source = sides.source q is
 
         by : (cycle_at e o x solved c < cycle_at e o x solved q) ⊎ (cycle_at e o x solved q ≤ cycle_at e o x solved c)
             → IsEarlyOrLate b behind There (After b) (after_behind b) (place_of q)
@@ -384,7 +422,7 @@ module _ (e : Ext) (o : Options) (x : List ℕ) (given : Given e o x)
               member = spot_in_region q k.0 t in_block k.2;
               is = refl;
               early = le;
-              other = not_same q.number c.number other;
+              other = sides.apart q is;
             }))
 
     each_early_or_late : (b : Bool) → Each (IsEarlyOrLate b behind There (After b) (after_behind b)) free
@@ -401,7 +439,7 @@ module _ (e : Ext) (o : Options) (x : List ℕ) (given : Given e o x)
     pub carried : (b : Bool) → Carrying b behind There (After b) (after_behind b) free
     carried b = carrying b behind There (After b) (after_behind b) free (each_early_or_late b) give_others
 
-    -- what is ahead of the call is given by none of them
+    -- what has issued by then is given by none of them
     none_gives : (s : Spot) → Member s (region_spots r) → ahead s.definer ≡ true → GiveNone free s.temp.0
     none_gives s m t = subst (λ ps. GiveNone ps s.temp.0) (sym free_are)
         (each_map (λ (p : Place). (u : TempId) → Member u p.it.results → u.0 ≡ s.temp.0 → ⊥) place_of between
@@ -410,12 +448,9 @@ module _ (e : Ext) (o : Options) (x : List ℕ) (given : Given e o x)
         let k = position_of q.op.results u mu in
         let one = one_spot e o x (numbered e o x given) (spot q k.0 u) s (spot_all e o x r (spot q k.0 u) mr
         (spot_in_region q k.0 u found.0 k.2)) (spot_all e o x r s mr m) same in
-        let is : ahead q ≡ true = ap (λ (v : Spot). ahead v.definer) one ∙ t in
-        let no : not (ahead q) ≡ true = ((and_iff (not (q.number == c.number)) (not (ahead q))).1
-        ((and_iff (is_source q.op.kind) _).1 found.1).1).1 in
-        absurd (both_ways (ahead q) is no))))
+        sides.rest q found.1 (ap (λ (v : Spot). ahead v.definer) one ∙ t))))
 
-    -- ---- what the values that cross come to
+    -- ---- what the values that are kept come to
 
     abbrev pub last : Bool → Spot → TempId
     last b s = temp ((carried b).last s.temp.0)
@@ -434,7 +469,7 @@ module _ (e : Ext) (o : Options) (x : List ℕ) (given : Given e o x)
     abbrev pub across : Bool → List TempId
     across b = map (last b) (crossing_spots b)
 
-    pub values_many : (b : Bool) → length (across b) ≡ length (crossing b arcs (region_places r) (place_of c))
+    pub values_many : (b : Bool) → length (across b) ≡ length (over b)
     values_many b =
         let k = length_mapped (last b) (crossing_spots b) in
         let l = length_mapped (λ (s : Spot). s.temp) (crossing_spots b) in
@@ -450,7 +485,7 @@ module _ (e : Ext) (o : Options) (x : List ℕ) (given : Given e o x)
         (none_gives u g.member g.before) (ap (λ (t : TempId). t.0) same) in
         ne (ap temp one)) (spots_differ b))
 
-    -- a value that crosses the call, and one of its readers
+    -- a value that is kept, and one of its readers
     pub record Crosses (b : Bool) (v : TempId) : Type 0 where
       of_value : There v.0
       user : After b v.0
@@ -520,37 +555,37 @@ module _ (e : Ext) (o : Options) (x : List ℕ) (given : Given e o x)
               (of_region r (w.own).definer (definer_in (region_placed r) w.own w.member) ∙ entry) start;
         })
 
-    -- those that a call owes by its cycle
-    spillers : (n : ℕ) → r.block ≡ 0 → n + length (callee_saved e.table) ≤ length (crossing false arcs (region_places r) (place_of c))
+    -- those that are owed by the operation's cycle
+    spillers : (n : ℕ) → r.block ≡ 0 → n + length keep.kept ≤ length (over false)
         → Several e o x solved (SpilledBy e o x solved c) n
     spillers n entry few =
         let many = values_many false in
-        spill_copies e o x solved c all_c call (callee_saved e.table) (saved_cover e o x solved c) (across false) (saved entry)
+        spill_copies e o x solved c keep.kept keep.has (across false) (saved entry)
         (values_differ false) n (omega (arith, few, many))
 
     pub owed_spills : Several e o x solved (λ p. SpilledBy e o x solved c p × (r.block ≡ 0))
-        (spills_at e.table (r.block == 0) arcs (region_places r) (place_of c))
+        (if r.block == 0 then length (over false) - length keep.kept else 0)
     owed_spills = by (r.block == 0) refl
       where
         by : (b : Bool) → (r.block == 0) ≡ b
             → Several e o x solved (λ p. SpilledBy e o x solved c p × (r.block ≡ 0))
-            (if b then length (crossing false arcs (region_places r) (place_of c)) - length (callee_saved e.table) else 0)
+            (if b then length (over false) - length keep.kept else 0)
         by false entry = none_of e o x solved (λ p. SpilledBy e o x solved c p × (r.block ≡ 0))
         by true entry =
-            let n = length (crossing false arcs (region_places r) (place_of c)) - length (callee_saved e.table) in
+            let n = length (over false) - length keep.kept in
             let block = eqb-true r.block 0 entry in
             several_or_none e o x solved (λ p. SpilledBy e o x solved c p × (r.block ≡ 0)) n (λ some.
             several_more e o x solved (SpilledBy e o x solved c) (λ p. SpilledBy e o x solved c p × (r.block ≡ 0)) n (λ p h. (h, block))
             (spillers n block (omega (arith, some))))
 
-    spilled : (n : ℕ) → r.block ≡ 0 → n + length (callee_saved e.table) ≤ length (crossing false arcs (region_places r) (place_of c))
+    spilled : (n : ℕ) → r.block ≡ 0 → n + length keep.kept ≤ length (over false)
         → n ≤ (issue_at x c).cycle - 1
     spilled n entry few =
         let many = values_many false in
         let block : c.block ≡ 0 = of_region r c mc ∙ entry in
         spills_fit e o x given schedule (cycle_at e o x solved c) n
         (subst (λ (b : ℕ). Spills (model_of e o) (record { values = x }) b (cycle_at e o x solved c) n) block
-        (must_spill e o x solved c all_c call (callee_saved e.table) (saved_cover e o x solved c) (across false) (saved entry)
+        (must_spill e o x solved c keep.kept keep.has (across false) (saved entry)
         (values_differ false) n (omega (arith, few, many))))
 
     -- ---- Reloads
@@ -566,44 +601,157 @@ module _ (e : Ext) (o : Options) (x : List ℕ) (given : Given e o x)
         let k = crossed_by true v m in
         record { crossing = crossed true v k; needs = wants true v k refl })
 
-    -- those that a call owes after its cycle
-    pub owed_reloads : Several e o x solved (ReloadedAfter e o x solved c) (reloads_at e.table arcs (region_places r) (place_of c))
+    -- those that are owed after it
+    pub owed_reloads : Several e o x solved (ReloadedAfter e o x solved c) (length (over true) - length keep.kept)
     owed_reloads =
-        let n = length (crossing true arcs (region_places r) (place_of c)) - length (callee_saved e.table) in
+        let n = length (over true) - length keep.kept in
         let many = values_many true in
         several_or_none e o x solved (ReloadedAfter e o x solved c) n (λ some.
-        reload_copies e o x solved c all_c call (callee_saved e.table) (saved_cover e o x solved c) (across true) wanted
+        reload_copies e o x solved c keep.kept keep.has (across true) wanted
         (values_differ true) n (omega (arith, some, many)))
 
-    reloaded : (n : ℕ) → n + length (callee_saved e.table) ≤ length (crossing true arcs (region_places r) (place_of c))
+    reloaded : (n : ℕ) → n + length keep.kept ≤ length (over true)
         → n ≤ ((issue_at x c).end - latency_of e.table Reload - (issue_at x c).cycle)
         + ((issue_at x c).end - latency_of e.table Reload - (issue_at x c).cycle)
     reloaded n few =
         let many = values_many true in
         reloads_fit e o x given schedule r.block (cycle_at e o x solved c) (issue_at x c).end n ends
         (subst (λ (b : ℕ). Reloads (model_of e o) (record { values = x }) b (cycle_at e o x solved c) n) (of_region r c mc)
-        (must_reload e o x solved c all_c call (callee_saved e.table) (saved_cover e o x solved c) (across true) wanted
+        (must_reload e o x solved c keep.kept keep.has (across true) wanted
         (values_differ true) n (omega (arith, few, many))))
 
     -- ---- its cycle
 
     -- it issues behind its Spills
-    pub heads : head_by (spills_at e.table (r.block == 0) arcs (region_places r) (place_of c)) ≤ (issue_at x c).cycle
-    heads = by (r.block == 0) refl
+    pub behind_spills : head_by (if r.block == 0 then length (over false) - length keep.kept else 0) ≤ (issue_at x c).cycle
+    behind_spills = by (r.block == 0) refl
       where
         by : (b : Bool) → (r.block == 0) ≡ b
-            → head_by (if b then length (crossing false arcs (region_places r) (place_of c)) - length (callee_saved e.table) else 0)
+            → head_by (if b then length (over false) - length keep.kept else 0)
             ≤ (issue_at x c).cycle
         by false entry = omega arith
         by true entry =
-            let n = length (crossing false arcs (region_places r) (place_of c)) - length (callee_saved e.table) in
+            let n = length (over false) - length keep.kept in
             head_le n (issue_at x c).cycle (λ some.
             let le = spilled n (eqb-true r.block 0 entry) (omega (arith, some)) in
             omega (arith, le, some))
 
     -- and before its Reloads
-    pub tails : (issue_at x c).cycle + 1 ≤ (issue_at x c).end → (issue_at x c).cycle
-        + tail_by (latency_of e.table Reload) (reloads_at e.table arcs (region_places r) (place_of c)) ≤ (issue_at x c).end
-    tails inside =
-        let n = length (crossing true arcs (region_places r) (place_of c)) - length (callee_saved e.table) in
+    pub before_reloads : (issue_at x c).cycle + 1 ≤ (issue_at x c).end → (issue_at x c).cycle
+        + tail_by (latency_of e.table Reload) (length (over true) - length keep.kept) ≤ (issue_at x c).end
+    before_reloads inside =
+        let n = length (over true) - length keep.kept in
         tail_le (latency_of e.table Reload) n (issue_at x c).cycle (issue_at x c).end inside (λ some. reloaded n (omega (arith, some)))
+
+  -- ---- calls, and other operations
+
+  module _ (r : Region) (mr : Member r (blocks e o x)) where
+    abbrev arcs : List Arc
+    arcs = arcs_or (slice_get (arcs_of e) r.block)
+
+    abbrev ps : List Place
+    ps = region_places r
+
+    pub call_sides : (c : Placed) → Member c (region_placed r) → is_call_kind c.op.kind ≡ true
+        → Sides r c (is_ahead arcs (place_of c)) (is_behind arcs (place_of c)) (is_loose arcs (place_of c))
+    call_sides c mc call = record {
+      by = λ d md t. order.before d c md mc call ((and_iff (not (d.number == c.number)) _).1 t).1;
+      other = λ d md t is. not_same d.number c.number ((and_iff (not (d.number == c.number)) _).1 t).0;
+      after = λ q mq t. order.behind c q mc mq call t;
+      source = λ q t. ((and_iff (is_source q.op.kind) _).1 t).0;
+      apart = λ q t is. not_same q.number c.number
+          ((and_iff (not (q.number == c.number)) (not (is_ahead arcs (place_of c) (place_of q)))).1
+          ((and_iff (is_source q.op.kind) _).1 t).1).0;
+      rest = λ q t early. both_ways (is_ahead arcs (place_of c) (place_of q)) early
+          ((and_iff (not (q.number == c.number)) (not (is_ahead arcs (place_of c) (place_of q)))).1
+          ((and_iff (is_source q.op.kind) _).1 t).1).1;
+    }
+      where
+        order : Ordered x r arcs
+        order = ordered e o x given schedule r mr
+
+    -- a call keeps what crosses it
+    abbrev pub call_keeping : (c : Placed) → Member c (region_placed r) → is_call_kind c.op.kind ≡ true → Keeping r c
+    call_keeping c mc call = record {
+      early = is_ahead arcs (place_of c);
+      late = is_behind arcs (place_of c);
+      loose = is_loose arcs (place_of c);
+      sides = call_sides c mc call;
+      kept = callee_saved e.table;
+      has = call_keeps e o x solved c (in_all e o x r c mr mc) call (callee_saved e.table) (saved_cover e o x solved c);
+    }
+
+    -- the registers of the block
+    abbrev pub registers : List ℕ
+    registers = registers_among (block_room (model_of e o).domains (definers_of (model_of e o)) ps)
+
+    pub own_sides : (c : Placed) → Member c (region_placed r) → is_source c.op.kind ≡ true → is_call_kind c.op.kind ≡ false
+        → Sides r c (λ (d : Place). is_before arcs d (place_of c)) (is_after arcs ps (place_of c)) (is_free arcs (place_of c))
+    own_sides c mc source other = record {
+      by = λ d md t. issued_by e o x given schedule r mr d c md mc t;
+      other = λ d md t is. no_call is;
+      after = λ q mq t. issued_after e o x given schedule r mr c q mc mq source t;
+      source = λ q t. ((and_iff (is_source q.op.kind) _).1 t).0;
+      apart = λ q t is. no_call is;
+      rest = λ q t early. both_ways (is_before arcs (place_of q) (place_of c)) early ((and_iff (is_source q.op.kind) _).1 t).1;
+    }
+      where
+        no_call : {A : Type 0} → is_call_kind c.op.kind ≡ true → A
+        no_call is = let z : true ≡ false = sym is ∙ other in absurd (cc z)
+
+    -- what carries a value in the block has one of its registers, or a slot
+    pub own_registers : (c : Placed) → Member c (region_placed r) → HasRegister e o x solved c registers
+    own_registers c mc k low =
+        let s = spot_in e o x solved c k in
+        let lt : nat_lt (reg_of e o x solved s) FIRST_SLOT ≡ true = grind (arith, nat_tests, low) in
+        member_filter (λ (n : ℕ). nat_lt n FIRST_SLOT) (block_room (model_of e o).domains (definers_of (model_of e o)) ps)
+        (reg_of e o x solved s)
+        (has_room e o x given schedule r mr s (spot_member e o x solved c k) (spot_block e o x solved c k ∙ of_region r c mc)) lt
+
+    -- what is there in another operation's cycle and is read after it is in the block's registers
+    abbrev pub own_keeping : (c : Placed) → Member c (region_placed r) → is_source c.op.kind ≡ true → is_call_kind c.op.kind ≡ false
+        → Keeping r c
+    own_keeping c mc source other = record {
+      early = λ (d : Place). is_before arcs d (place_of c);
+      late = is_after arcs ps (place_of c);
+      loose = is_free arcs (place_of c);
+      sides = own_sides c mc source other;
+      kept = registers;
+      has = own_registers c mc;
+    }
+
+    module _ (c : Placed) (mc : Member c (region_placed r)) (source : is_source c.op.kind ≡ true) where
+      -- what holds of a call's values, and of another operation's, holds of those that are kept over it
+      by_kind : (P : (Bool → List TempId) → ℕ → Type 0)
+          → (is_call_kind c.op.kind ≡ true → P (λ b. crossing b arcs ps (place_of c)) (length (callee_saved e.table)))
+          → (is_call_kind c.op.kind ≡ false → P (λ b. alive b arcs ps (place_of c)) (length registers))
+          → P (λ b. kept_over b arcs ps (place_of c)) (kept_at e.table (length registers) (place_of c))
+      by_kind P call other = by (is_call_kind c.op.kind) refl
+        where
+          by : (t : Bool) → is_call_kind c.op.kind ≡ t
+              → P (λ b. if t then crossing b arcs ps (place_of c) else alive b arcs ps (place_of c))
+              (if t then length (callee_saved e.table) else length registers)
+          by true k = call k
+          by false k = other k
+
+      pub spills_owed : Several e o x solved (λ p. SpilledBy e o x solved c p × (r.block ≡ 0))
+          (spills_at e.table (length registers) (r.block == 0) arcs ps (place_of c))
+      spills_owed = by_kind (λ over n. Several e o x solved (λ p. SpilledBy e o x solved c p × (r.block ≡ 0))
+          (if r.block == 0 then length (over false) - n else 0))
+          (λ k. owed_spills r mr c mc (call_keeping c mc k)) (λ k. owed_spills r mr c mc (own_keeping c mc source k))
+
+      pub reloads_owed : Several e o x solved (ReloadedAfter e o x solved c)
+          (reloads_at e.table (length registers) arcs ps (place_of c))
+      reloads_owed = by_kind (λ over n. Several e o x solved (ReloadedAfter e o x solved c) (length (over true) - n))
+          (λ k. owed_reloads r mr c mc (call_keeping c mc k)) (λ k. owed_reloads r mr c mc (own_keeping c mc source k))
+
+      pub heads : head_by (spills_at e.table (length registers) (r.block == 0) arcs ps (place_of c)) ≤ (issue_at x c).cycle
+      heads = by_kind (λ over n. head_by (if r.block == 0 then length (over false) - n else 0) ≤ (issue_at x c).cycle)
+          (λ k. behind_spills r mr c mc (call_keeping c mc k)) (λ k. behind_spills r mr c mc (own_keeping c mc source k))
+
+      pub tails : (issue_at x c).cycle + 1 ≤ (issue_at x c).end → (issue_at x c).cycle
+          + tail_by (latency_of e.table Reload) (reloads_at e.table (length registers) arcs ps (place_of c)) ≤ (issue_at x c).end
+      tails inside = by_kind (λ over n. (issue_at x c).cycle
+          + tail_by (latency_of e.table Reload) (length (over true) - n) ≤ (issue_at x c).end)
+          (λ k. before_reloads r mr c mc (call_keeping c mc k) inside)
+          (λ k. before_reloads r mr c mc (own_keeping c mc source k) inside)

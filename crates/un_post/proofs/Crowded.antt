@@ -1,6 +1,6 @@
 -- Saved values in slots: where a block hands its saved values over where it takes them, a call in it leaves one of them in a slot. The
 -- entry spills what it hands over in a slot, and a block that takes a value in a slot and reads it in a register reloads it.
-use Rattle.std.proofs.Common.{ℕ, zero, suc, ◌≡◌, ◌<◌, ◌≤◌, ◌+◌, ◌-◌, Bool, true, false, List, [], ◌∷◌, length, map, filter, inl, inr}
+use Rattle.std.proofs.Common.{ℕ, zero, suc, ◌≡◌, ◌<◌, ◌≤◌, ◌+◌, Bool, true, false, List, [], ◌∷◌, length, map, filter, inl, inr}
 use Rattle.std.proofs.Common.{refl, sym, ap, ◌∙◌, subst, arith}
 use Rattle.std.specs.Prelude.{Option, Some, None, slice_get, ◌&&◌, ◌||◌, ◌==◌, nat_lt, is_some}
 use Rattle.std.specs.List.{list_any}
@@ -40,7 +40,7 @@ use Rattle.un_model.proofs.PlacedSchedules.{all, spots, the_ranges, range_get, r
 use Rattle.un_model.proofs.Readings.{Solved, reading as read_by}
 use Rattle.un_model.proofs.TempKinds.{carried_at, spot_carried}
 use Rattle.un_press.proofs.Counting.{Differ, length_mapped}
-use Rattle.un_press.proofs.Crossings.{reg_of, is_active, Carried, spot_in as carrier, spot_member, in_slot, Differs, many_in_slots}
+use Rattle.un_press.proofs.Crossings.{reg_of, is_active, Carried, spot_in as carrier, spot_member, in_slot, Differs, many_in_slots, call_keeps}
 use Rattle.un_press.proofs.Crossings.{held_spot, held_member, held_active, held_value}
 use Rattle.un_press.proofs.Descent.{cycle_at, Reader, Held, IsOnTheWay, held}
 use Rattle.un_press.proofs.Kept.{saved_cover, entry_starts}
@@ -311,7 +311,7 @@ module _ (e : Ext) (o : Options) (x : List ℕ) (given : Given e o x)
                   member = s.member;
                   is = s.is;
                   early = omega (arith, begins);
-                  other = λ number. no_call s.spot.definer.op.kind s.kind
+                  other = λ is number. no_call s.spot.definer.op.kind s.kind
                       (ap (λ (p : Placed). is_call_kind p.op.kind)
                       (one_placed e o x solved s.spot.definer c (in_all e o x r s.spot.definer in_blocks s.region) all_c number) ∙ call);
                   reader = reader;
@@ -361,7 +361,8 @@ module _ (e : Ext) (o : Options) (x : List ℕ) (given : Given e o x)
             let are = values_are vs each_crosses in
             let apart : Pairwise (Differs e o x solved c) ks = pairwise_of_map (λ a b. a ≡ b → ⊥) value ks
             (subst (λ (us : List TempId). Differ us) (sym are) saved_differ) in
-            let some = many_in_slots e o x solved c all_c call (callee_saved e.table) (saved_cover e o x solved c) ks apart in
+            let some = many_in_slots e o x solved c (callee_saved e.table)
+            (call_keeps e o x solved c all_c call (callee_saved e.table) (saved_cover e o x solved c)) ks apart in
             let long = ap length are in
             let mapped = length_mapped value ks in
             let high = filter (in_slot e o x solved c) ks in

@@ -1,17 +1,16 @@
--- What a block issues fills cycles: what is ahead of a call with its Spills those up to it, what is behind it with its Reloads those from
--- it to the end, and all of it, with what it owes for its neighbours, those of the block.
-use Rattle.std.proofs.Common.{ℕ, ◌≡◌, ◌<◌, ◌≤◌, ◌+◌, ◌*◌, ◌-◌, Bool, true, false, List, [], ◌∷◌, ◌++◌, map, filter}
+-- What a block issues fills cycles: what has issued by an operation's cycle, with its Spills, those up to it, what issues after it, with its
+-- Reloads, those from it to the end, and all of it, with what it owes for its neighbours, those of the block.
+use Rattle.std.proofs.Common.{ℕ, ◌≡◌, ◌<◌, ◌≤◌, ◌+◌, ◌*◌, ◌-◌, Bool, true, false, List, map, filter}
 use Rattle.std.proofs.Common.{refl, sym, ap, ◌∙◌, arith, eq-eqb}
-use Rattle.std.specs.Prelude.{Some, not, ◌&&◌, ◌==◌, slice_get, slice_index, sum_by, if◌then◌else◌}
-use Rattle.std.proofs.lemmas.List.Sums.{sum_by-cons, sum_by-append}
+use Rattle.std.specs.Prelude.{Some, ◌&&◌, ◌==◌, slice_get, slice_index, length, sum_by, if◌then◌else◌}
 use Rattle.un_base.specs.declared.ids.VarId.{VarId}
 use Rattle.un_isa.specs.Tables.{latency_of}
 use Rattle.un_isa.specs.declared.op.Op.{Op}
-use Rattle.un_isa.specs.declared.op.Op.TheVariants.{Call, Spill, Reload, Enter as EnterOp, Leave as LeaveOp}
+use Rattle.un_isa.specs.declared.op.Op.TheVariants.{Spill, Reload, Enter as EnterOp, Leave as LeaveOp}
 use Rattle.un_isa.specs.declared.packet_counts.Resource.{Resource}
 use Rattle.un_ir.specs.declared.extended.Ext.{Ext}
 use Rattle.un_ir.specs.Extended.{is_copy, is_leave, one_if}
-use Rattle.un_ir.specs.Kinds.{is_call_kind, is_mandatory}
+use Rattle.un_ir.specs.Kinds.{is_call_kind, is_mandatory, is_source}
 use Rattle.un_model.specs.declared.model.Arc.{Arc}
 use Rattle.un_model.specs.declared.model.Options.{Options}
 use Rattle.un_model.specs.Arcs.{own_instr}
@@ -25,31 +24,30 @@ use Rattle.un_model.proofs.Readings.{Solved}
 use Rattle.un_press.proofs.Descent.{cycle_at}
 use Rattle.un_press.proofs.Spilling.{Several, SpilledBy}
 use Rattle.un_press.proofs.Reloading.{ReloadedAfter}
-use Rattle.un_sites.specs.Crossings.{is_ahead, spills_at, reloads_at}
-use Rattle.un_sites.specs.Lengths.{head_by, tail_by, owed_head, end_head, cycles_by, cycles_after, cycles_in, most_of}
+use Rattle.un_sites.specs.Crossings.{is_after, spills_at, reloads_at}
+use Rattle.un_sites.specs.Lengths.{is_asking, head_by, tail_by, owed_head, end_head, cycles_by, cycles_after, cycles_in, most_of}
 use Rattle.un_sites.specs.Places.{Place}
-use Rattle.un_sites.specs.Rooms.{arcs_or, is_behind}
+use Rattle.un_sites.specs.Rooms.{arcs_or, is_before, is_behind}
 use Rattle.un_sites.specs.Saved.{crowded_of, edges_between, leads_there, comes_from, reads_saved, owed_by}
-use Rattle.un_sites.specs.Shares.{own_share, spills_share, reloads_share, has_leave}
+use Rattle.un_sites.specs.Shares.{own_share, spills_share, reloads_share, has_leave, cycles_with}
 use Rattle.un_sites.specs.declared.edges.Accesses.{Accesses}
 use Rattle.un_post.proofs.AccessRooms.{framed, distant, placed_as, late}
 use Rattle.un_post.proofs.Blocks.{blocks, region_places, region_close, in_all, stands_in}
-use Rattle.un_post.proofs.CallOrder.{ordered}
-use Rattle.un_post.proofs.Crossed.{owed_spills as call_spills, owed_reloads as call_reloads}
+use Rattle.un_post.proofs.CallOrder.{ordered, issued_by, issued_after}
+use Rattle.un_post.proofs.Crossed.{registers, asking_source, spills_owed as asked_spills, reloads_owed as asked_reloads}
 use Rattle.un_post.proofs.Crowded.{Accesses_by}
 use Rattle.un_post.proofs.Facts.{Given, in_domains}
 use Rattle.un_post.proofs.Filling.{enough, greatest_is, none_of, several_more, first_of_several, takes_is, Beside, Other, beside_none}
 use Rattle.un_post.proofs.Filling.{beside_one}
 use Rattle.un_post.proofs.Filling.{beside_several, beside_both, beside_fits, takes, IsThere, sum_passing, sum_filter, filter_whole}
-use Rattle.un_post.proofs.Issued.{is_issued, own_as, own_none, issued_some, issued_mandatory, call_issued, copy_optional}
-use Rattle.un_post.proofs.Issued.{enter_optional, leave_optional, leave_frames, leave_instr, tag, leave_after, and_no, first_no}
+use Rattle.un_post.proofs.Issued.{is_issued, own_as, own_none, issued_some, issued_mandatory, source_issued, copy_optional}
+use Rattle.un_post.proofs.Issued.{enter_optional, leave_optional, leave_frames, leave_instr, tag, leave_after}
 use Rattle.un_post.proofs.OneEnter.{filter_map, one_enter}
 use Rattle.un_post.proofs.Packets.{sum_map, sum_part}
 use Rattle.un_post.proofs.Placing.{place_of}
 use Rattle.un_post.proofs.Regions.{of_region, placed_regions}
 use Rattle.un_post.proofs.Slotted.{ReloadsIn as ReloadsBy, crowded_slotted, owed_spills, owed_reloads}
-use Rattle.un_post.proofs.Spared.{Ordered, call_instr}
-use Rattle.un_post.proofs.Tests.{and_iff}
+use Rattle.un_post.proofs.Spared.{Ordered}
 
 module _ (e : Ext) (o : Options) (x : List ℕ) (given : Given e o x)
     (schedule : IsSchedule (latency_gap e.table) (model_of e o).domains (model_of e o) x (schedule_of (model_of e o) x)) where
@@ -274,33 +272,24 @@ module _ (e : Ext) (o : Options) (x : List ℕ) (given : Given e o x)
                 })
                 (λ resource. ap (share_of e.table resource) (sym instr)))
 
-    -- ---- a call
+    -- ---- an operation
 
-    module _ (c : Placed) (mc : Member c (region_placed r)) (call : is_call_kind c.op.kind ≡ true) where
-      order : Ordered x r arcs
-      order = ordered e o x given schedule r mr
+    abbrev room : ℕ
+    room = length (registers e o x given schedule r mr)
 
+    module _ (c : Placed) (mc : Member c (region_placed r)) (source : is_source c.op.kind ≡ true) where
       all_c : Member c (all e o x)
       all_c = in_all e o x r c mr mc
 
-      call_is : (issue_at x c).instr ≡ Some Call
-      call_is = let v = vars_of c in call_instr c.op.kind (value_by x v.instr) call
-
       inside : (0 < cycle c) × (cycle c < end c)
-      inside = issued_within c all_c (call_issued c.op.kind call)
+      inside = issued_within c all_c (source_issued c.op.kind source)
+
+      abbrev all_own : Placed → Bool
+      all_own q = is_mandatory q.op.kind
 
       -- ---- up to its cycle
 
-      abbrev others : Placed → Bool
-      others q = is_mandatory q.op.kind && not (q.number == c.number)
-
-      not_others : (q : Placed) → is_mandatory q.op.kind ≡ false → others q ≡ false
-      not_others q h = first_no (is_mandatory q.op.kind) (not (q.number == c.number)) h
-
-      not_itself : others c ≡ false
-      not_itself = and_no (is_mandatory c.op.kind) (not (c.number == c.number)) (ap not (eq-eqb c.number c.number refl))
-
-      spilling : (p : Placed) → SpilledBy e o x solved c p × (r.block ≡ 0) → Spilling 1 (cycle c) others not_others p
+      spilling : (p : Placed) → SpilledBy e o x solved c p × (r.block ≡ 0) → Spilling 1 (cycle c) all_own (λ q h. h) p
       spilling p h =
           let s = h.0 in
           let first = s.first in
@@ -315,66 +304,34 @@ module _ (e : Ext) (o : Options) (x : List ℕ) (given : Given e o x)
           }
 
       abbrev spills : ℕ
-      spills = spills_at e.table (r.block == 0) arcs ps (place_of c)
+      spills = spills_at e.table room (r.block == 0) arcs ps (place_of c)
 
-      with_call : Beside e o x solved r.block 1 (cycle c) others tag 1 4
-          (λ resource. share_of e.table resource (Some Call) + spills_share e.table spills resource)
-      with_call =
-          let is : tag (issue_at x c).instr ≡ 1 = ap tag call_is in
-          let some = inside.0 in
-          beside_both e o x solved r.block 1 (cycle c) others tag 1 2 4 (λ resource. share_of e.table resource (Some Call))
-          (λ resource. spills_share e.table spills resource)
-          (λ resource. share_of e.table resource (Some Call) + spills_share e.table spills resource) (omega arith) (omega arith)
-          (λ resource. refl)
-          (beside_one e o x solved r.block 1 (cycle c) others tag 1 2 c (λ resource. share_of e.table resource (Some Call))
-          (record {
-            member = all_c;
-            passes = not_itself;
-            block = of_region r c mc;
-            there = (omega (arith, some), omega arith);
-            least = omega (arith, is);
-            greatest = omega (arith, is);
-          })
-          (λ resource. ap (share_of e.table resource) (sym call_is)))
-          (spills_beside 1 (cycle c) others not_others (omega arith) spills
-          (several_more e o x solved (λ p. SpilledBy e o x solved c p × (r.block ≡ 0)) (Spilling 1 (cycle c) others not_others) spills
-          spilling
-          (call_spills e o x given schedule r mr c mc call)))
+      with_spills : Beside e o x solved r.block 1 (cycle c) all_own tag 2 4 (λ resource. spills_share e.table spills resource)
+      with_spills = spills_beside 1 (cycle c) all_own (λ q h. h) (omega arith) spills
+          (several_more e o x solved (λ p. SpilledBy e o x solved c p × (r.block ≡ 0)) (Spilling 1 (cycle c) all_own (λ q h. h)) spills
+          spilling (asked_spills e o x given schedule r mr c mc source))
 
-      ahead_there : (q : Placed) → Member q (region_placed r) → is_ahead arcs (place_of c) (place_of q) ≡ true → is_issued q.op.kind ≡ true
-          → There 1 (cycle c) others q × (others q ≡ true)
-      ahead_there q m early t =
-          let two = (and_iff (not (q.number == c.number)) _).1 early in
+      early_there : (q : Placed) → Member q (region_placed r) → is_before arcs (place_of q) (place_of c) ≡ true
+          → is_issued q.op.kind ≡ true → There 1 (cycle c) all_own q × (all_own q ≡ true)
+      early_there q m early t =
           let within = issued_within q (in_all e o x r q mr m) t in
           let some = within.0 in
-          let le = order.before q c m mc call two.1 in (
-            (omega (arith, some), omega (arith, le)),
-            (and_iff (is_mandatory q.op.kind) (not (q.number == c.number))).0 (issued_mandatory q.op.kind t, two.0),
-          )
+          let le = issued_by e o x given schedule r mr q c m mc early in
+          ((omega (arith, some), omega (arith, le)), issued_mandatory q.op.kind t)
 
-      pub heads_filled : cycles_by e.table (r.block == 0) arcs ps (place_of c) ≤ cycle c
-      heads_filled = enough e.table (filter (is_ahead arcs (place_of c)) ps ++ place_of c ∷ []) false spills 0 (cycle c) (λ resource.
-          let early = filter (is_ahead arcs (place_of c)) ps in
-          let f = λ (p : Place). share_of e.table resource (own_instr p.it) in
-          let parts = sum_by-append f early (place_of c ∷ []) in
-          let last = sum_by-cons f (place_of c) [] in
-          let v = vars_of c in
-          let same : f (place_of c) ≡ share_of e.table resource (Some Call) =
-          own_as e.table resource c.op.kind (value_by x v.instr) (call_issued c.op.kind call) ∙ ap (share_of e.table resource) call_is in
-          let own = own_below 1 (cycle c) others (is_ahead arcs (place_of c))
-          (each_of (λ q. is_ahead arcs (place_of c) (place_of q) ≡ true → is_issued q.op.kind ≡ true
-          → There 1 (cycle c) others q × (others q ≡ true)) (region_placed r) ahead_there) resource in
-          let fit = beside_fits e o x solved r.block 1 (cycle c) others tag 1 4
-          (λ resource. share_of e.table resource (Some Call) + spills_share e.table spills resource) with_call resource in
-          omega (arith, parts, last, same, own, fit))
+      pub heads_filled : cycles_by e.table room (r.block == 0) arcs ps (place_of c) ≤ cycle c
+      heads_filled = enough e.table (filter (λ (d : Place). is_before arcs d (place_of c)) ps) false spills 0 (cycle c) (λ resource.
+          let own = own_below 1 (cycle c) all_own (λ (d : Place). is_before arcs d (place_of c))
+          (each_of (λ q. is_before arcs (place_of q) (place_of c) ≡ true → is_issued q.op.kind ≡ true
+          → There 1 (cycle c) all_own q × (all_own q ≡ true)) (region_placed r) early_there) resource in
+          let fit = beside_fits e o x solved r.block 1 (cycle c) all_own tag 2 4
+          (λ resource. spills_share e.table spills resource) with_spills resource in
+          omega (arith, own, fit))
 
       -- ---- between it and the end
 
       abbrev left : ℕ
       left = close - 1 - cycle c
-
-      abbrev all_own : Placed → Bool
-      all_own q = is_mandatory q.op.kind
 
       end_own : end c ≡ close
       end_own = end_is c mc
@@ -396,7 +353,7 @@ module _ (e : Ext) (o : Options) (x : List ℕ) (given : Given e o x)
           }
 
       abbrev reloads : ℕ
-      reloads = reloads_at e.table arcs ps (place_of c)
+      reloads = reloads_at e.table room arcs ps (place_of c)
 
       with_reloads : Beside e o x solved r.block (cycle c + 1) left all_own tag 4 6
           (λ resource. reloads_share e.table (has_leave ps) reloads resource)
@@ -405,30 +362,40 @@ module _ (e : Ext) (o : Options) (x : List ℕ) (given : Given e o x)
           let own = end_own in
           reloads_beside (cycle c + 1) left all_own (λ q h. h) (omega (arith, last, own)) reloads
           (several_more e o x solved (ReloadedAfter e o x solved c) (Reloading (cycle c + 1) left all_own (λ q h. h)) reloads reloading
-          (call_reloads e o x given schedule r mr c mc call))
+          (asked_reloads e o x given schedule r mr c mc source))
 
-      behind_there : (q : Placed) → Member q (region_placed r) → is_behind arcs (place_of c) (place_of q) ≡ true
-          → is_issued q.op.kind ≡ true
-          → There (cycle c + 1) left all_own q × (all_own q ≡ true)
-      behind_there q m late t =
+      -- where tests say which operations issue after it
+      filled_after : (late : Place → Bool) → ((q : Placed) → Member q (region_placed r) → late (place_of q) ≡ true
+          → cycle c + 1 ≤ cycle q) → cycle c + (cycles_with e.table (filter late ps) (has_leave ps) 0 reloads + 1) ≤ end c
+      filled_after late after =
+          let last = inside.1 in
+          let own_end = end_own in
+          let le = enough e.table (filter late ps) (has_leave ps) 0 reloads left (λ resource.
+          let own = own_below (cycle c + 1) left all_own late
+          (each_of (λ q. late (place_of q) ≡ true → is_issued q.op.kind ≡ true
+          → There (cycle c + 1) left all_own q × (all_own q ≡ true)) (region_placed r) (λ q m is t.
           let within = issued_within q (in_all e o x r q mr m) t in
           let before = within.1 in
           let closes = end_is q m in
-          let le = order.behind c q mc m call late in
-          ((omega (arith, le), omega (arith, before, closes, le)), issued_mandatory q.op.kind t)
-
-      pub tails_filled : cycle c + (cycles_after e.table arcs ps (place_of c) + 1) ≤ end c
-      tails_filled =
-          let last = inside.1 in
-          let own_end = end_own in
-          let le = enough e.table (filter (is_behind arcs (place_of c)) ps) (has_leave ps) 0 reloads left (λ resource.
-          let own = own_below (cycle c + 1) left all_own (is_behind arcs (place_of c))
-          (each_of (λ q. is_behind arcs (place_of c) (place_of q) ≡ true → is_issued q.op.kind ≡ true
-          → There (cycle c + 1) left all_own q × (all_own q ≡ true)) (region_placed r) behind_there) resource in
+          let le = after q m is in
+          ((omega (arith, le), omega (arith, before, closes, le)), issued_mandatory q.op.kind t))) resource in
           let fit = beside_fits e o x solved r.block (cycle c + 1) left all_own tag 4 6
           (λ resource. reloads_share e.table (has_leave ps) reloads resource) with_reloads resource in
           omega (arith, own, fit)) in
           omega (arith, le, last, own_end)
+
+      pub tails_filled : cycle c + (cycles_after e.table room arcs ps (place_of c) + 1) ≤ end c
+      tails_filled = by (is_call_kind c.op.kind) refl
+        where
+          order : Ordered x r arcs
+          order = ordered e o x given schedule r mr
+
+          by : (t : Bool) → is_call_kind c.op.kind ≡ t
+              → cycle c + (cycles_with e.table (if t then filter (is_behind arcs (place_of c)) ps else filter (is_after arcs ps (place_of c)) ps)
+              (has_leave ps) 0 reloads + 1) ≤ end c
+          by true call = filled_after (is_behind arcs (place_of c)) (λ q m late. order.behind c q mc m call late)
+          by false call = filled_after (is_after arcs ps (place_of c))
+              (λ q m late. issued_after e o x given schedule r mr c q mc m source late)
 
     -- ---- the block
 
@@ -452,16 +419,16 @@ module _ (e : Ext) (o : Options) (x : List ℕ) (given : Given e o x)
       abbrev ReloadsIn : ℕ → Type 0
       ReloadsIn n = Several e o x solved (Reloading 1 whole mandatory (λ q h. h)) n
 
-      module _ (c : Placed) (mc : Member c (region_placed r)) (call : is_call_kind c.op.kind ≡ true) where
-        call_within : (0 < cycle c) × (cycle c < end c)
-        call_within = issued_within c (in_all e o x r c mr mc) (call_issued c.op.kind call)
+      module _ (c : Placed) (mc : Member c (region_placed r)) (source : is_source c.op.kind ≡ true) where
+        own_within : (0 < cycle c) × (cycle c < end c)
+        own_within = issued_within c (in_all e o x r c mr mc) (source_issued c.op.kind source)
 
         spilling_in : (p : Placed) → SpilledBy e o x solved c p × (r.block ≡ 0) → Spilling 1 whole mandatory (λ q h. h) p
         spilling_in p h =
             let s = h.0 in
             let first = s.first in
             let last = s.last in
-            let before = call_within.1 in
+            let before = own_within.1 in
             let is = end_is c mc in
             record {
               member = s.member;
@@ -577,37 +544,40 @@ module _ (e : Ext) (o : Options) (x : List ℕ) (given : Given e o x)
 
       -- ---- all that it issues
 
-      -- of the calls the one with most of them has so many, where so many are owed
+      -- of those that ask the one that asks for most of them has so many, where so many are owed
       most_in : (P : ℕ → Type 0) (owed : ℕ) (f : Place → ℕ) → P owed → P 0
-          → ((c : Placed) → Member c (region_placed r) → is_call_kind c.op.kind ≡ true → P (f (place_of c))) → P (most_of owed f ps)
-      most_in P owed f owes none of_call =
-          greatest_is P owed (map (λ (p : Place). if is_call_kind p.it.kind then f p else 0) ps) owes
-          (each_map P (λ (p : Place). if is_call_kind p.it.kind then f p else 0) ps
-          (each_map (λ (p : Place). P (if is_call_kind p.it.kind then f p else 0)) place_of (region_placed r)
-          (each_of (λ (q : Placed). P (if is_call_kind q.op.kind then f (place_of q) else 0)) (region_placed r) (λ q m.
-          by q m (is_call_kind q.op.kind) refl))))
+          → ((c : Placed) → Member c (region_placed r) → is_source c.op.kind ≡ true → P (f (place_of c))) → P (most_of owed f room ps)
+      most_in P owed f owes none of_source =
+          greatest_is P owed (map (λ (p : Place). if is_asking room ps p then f p else 0) ps) owes
+          (each_map P (λ (p : Place). if is_asking room ps p then f p else 0) ps
+          (each_map (λ (p : Place). P (if is_asking room ps p then f p else 0)) place_of (region_placed r)
+          (each_of (λ (q : Placed). P (if is_asking room ps (place_of q) then f (place_of q) else 0)) (region_placed r) (λ q m.
+          by q m (is_asking room ps (place_of q)) refl))))
         where
-          by : (q : Placed) → Member q (region_placed r) → (b : Bool) → is_call_kind q.op.kind ≡ b → P (if b then f (place_of q) else 0)
-          by q m true h = of_call q m h
+          by : (q : Placed) → Member q (region_placed r) → (b : Bool) → is_asking room ps (place_of q) ≡ b
+              → P (if b then f (place_of q) else 0)
+          by q m true h = of_source q m (asking_source room ps (place_of q) h)
           by q m false h = none
 
       abbrev spills_most : ℕ
-      spills_most = let w = owed in most_of w.spills (spills_at e.table (r.block == 0) arcs ps) ps
+      spills_most = let w = owed in most_of w.spills (spills_at e.table room (r.block == 0) arcs ps) room ps
 
       abbrev reloads_most : ℕ
-      reloads_most = let w = owed in most_of w.reloads (reloads_at e.table arcs ps) ps
+      reloads_most = let w = owed in most_of w.reloads (reloads_at e.table room arcs ps) room ps
 
       spills_in : SpillsIn spills_most
-      spills_in = most_in SpillsIn (let w = owed in w.spills) (spills_at e.table (r.block == 0) arcs ps) spills_owed
+      spills_in = most_in SpillsIn (let w = owed in w.spills) (spills_at e.table room (r.block == 0) arcs ps) spills_owed
           (none_of e o x solved (Spilling 1 whole mandatory (λ q h. h)))
-          (λ c mc call. several_more e o x solved (λ p. SpilledBy e o x solved c p × (r.block ≡ 0)) (Spilling 1 whole mandatory (λ q h. h))
-          (spills_at e.table (r.block == 0) arcs ps (place_of c)) (spilling_in c mc call) (call_spills e o x given schedule r mr c mc call))
+          (λ c mc source. several_more e o x solved (λ p. SpilledBy e o x solved c p × (r.block ≡ 0))
+          (Spilling 1 whole mandatory (λ q h. h)) (spills_at e.table room (r.block == 0) arcs ps (place_of c)) (spilling_in c mc source)
+          (asked_spills e o x given schedule r mr c mc source))
 
       reloads_in : ReloadsIn reloads_most
-      reloads_in = most_in ReloadsIn (let w = owed in w.reloads) (reloads_at e.table arcs ps) reloads_owed
+      reloads_in = most_in ReloadsIn (let w = owed in w.reloads) (reloads_at e.table room arcs ps) reloads_owed
           (none_of e o x solved (Reloading 1 whole mandatory (λ q h. h)))
-          (λ c mc call. several_more e o x solved (ReloadedAfter e o x solved c) (Reloading 1 whole mandatory (λ q h. h))
-          (reloads_at e.table arcs ps (place_of c)) (reloading_in c mc call) (call_reloads e o x given schedule r mr c mc call))
+          (λ c mc source. several_more e o x solved (ReloadedAfter e o x solved c) (Reloading 1 whole mandatory (λ q h. h))
+          (reloads_at e.table room arcs ps (place_of c)) (reloading_in c mc source)
+          (asked_reloads e o x given schedule r mr c mc source))
 
       abbrev need : Resource → ℕ
       need resource = spills_share e.table spills_most resource + reloads_share e.table (has_leave ps) reloads_most resource
@@ -620,7 +590,7 @@ module _ (e : Ext) (o : Options) (x : List ℕ) (given : Given e o x)
           (spills_beside 1 whole mandatory (λ q h. h) (omega arith) spills_most spills_in)
           (reloads_beside 1 whole mandatory (λ q h. h) (omega (arith, some)) reloads_most reloads_in)
 
-      end_filled : cycles_in e.table (r.block == 0) owed arcs ps + 1 ≤ close
+      end_filled : cycles_in e.table room (r.block == 0) owed arcs ps + 1 ≤ close
       end_filled =
           let some = some_end in
           let le = enough e.table ps (has_leave ps) spills_most reloads_most whole (λ resource.
@@ -638,5 +608,5 @@ module _ (e : Ext) (o : Options) (x : List ℕ) (given : Given e o x)
           omega (arith, le, some)
 
       -- the end is behind all of it
-      pub end_behind : end_head e.table (r.block == 0) owed arcs ps ≤ close
+      pub end_behind : end_head e.table room (r.block == 0) owed arcs ps ≤ close
       end_behind = let filled = end_filled in let owes = owed_filled in omega (arith, filled, owes)

@@ -10,7 +10,7 @@ use Rattle.un_ir.specs.declared.function.Term.TheVariants.{Fall, Jump, Branch, R
 use Rattle.un_ir.specs.declared.extended.ExtKind.{ExtKind}
 use Rattle.un_ir.specs.declared.extended.ExtKind.TheVariants.{In, Out, Body, End, Copy, Enter, Leave}
 use Rattle.un_ir.specs.Extended.{is_copy, is_enter, is_leave}
-use Rattle.un_ir.specs.Kinds.{is_call_kind, is_delimiter, is_frame_op, is_mandatory}
+use Rattle.un_ir.specs.Kinds.{is_delimiter, is_frame_op, is_mandatory, is_source}
 use Rattle.un_model.specs.Instructions.{instruction_of}
 use Rattle.un_model.specs.Solutions.{frame_distance, share_of}
 use Rattle.un_post.proofs.AccessRooms.{frame_on}
@@ -72,14 +72,14 @@ issued_mandatory (Copy node) h = absurd (cc h)
 issued_mandatory Enter h = absurd (cc h)
 issued_mandatory Leave h = absurd (cc h)
 
-pub call_issued : (kind : ExtKind) → is_call_kind kind ≡ true → is_issued kind ≡ true
-call_issued (Body so) h = refl
-call_issued In h = absurd (cc h)
-call_issued Out h = absurd (cc h)
-call_issued (End term) h = absurd (cc h)
-call_issued (Copy node) h = absurd (cc h)
-call_issued Enter h = absurd (cc h)
-call_issued Leave h = absurd (cc h)
+pub source_issued : (kind : ExtKind) → is_source kind ≡ true → is_issued kind ≡ true
+source_issued (Body so) h = refl
+source_issued In h = absurd (cc h)
+source_issued Out h = absurd (cc h)
+source_issued (End term) h = absurd (cc h)
+source_issued (Copy node) h = absurd (cc h)
+source_issued Enter h = absurd (cc h)
+source_issued Leave h = absurd (cc h)
 
 pub copy_optional : (kind : ExtKind) → is_copy kind ≡ true → is_mandatory kind ≡ false
 copy_optional (Copy node) h = refl

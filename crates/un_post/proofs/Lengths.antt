@@ -14,7 +14,7 @@ use Rattle.un_ir.specs.declared.function.Term.TheVariants.{Fall, Jump, Branch, R
 use Rattle.un_ir.specs.declared.extended.ExtKind.{ExtKind}
 use Rattle.un_ir.specs.declared.extended.ExtKind.TheVariants.{In, Out, Body, End, Copy, Enter, Leave}
 use Rattle.un_ir.specs.declared.extended.Ext.{Ext}
-use Rattle.un_ir.specs.Kinds.{is_optional, is_call_kind}
+use Rattle.un_ir.specs.Kinds.{is_optional, is_source}
 use Rattle.un_ir.specs.Linear.{is_out}
 use Rattle.un_model.specs.declared.model.Arc.{Arc}
 use Rattle.un_model.specs.declared.model.Model.{Model}
@@ -38,18 +38,19 @@ use Rattle.un_length.specs.BlockLaws.{fits_holds}
 use Rattle.un_kinds.specs.Constraints.{Constraint, AllMet, Before, meets}
 use Rattle.un_sites.specs.Befores.{arc_before, befores_in, known_befores, length_in, lengths_of}
 use Rattle.un_sites.specs.CallBefores.{call_befores_by}
-use Rattle.un_sites.specs.Lengths.{is_task, tail_of, end_head, call_head, call_tail, var_in, task_of, tasks_in, task_place}
+use Rattle.un_sites.specs.Lengths.{is_task, is_asking, tail_of, end_head, asked_head, asked_tail, var_in, task_of, tasks_in, task_place}
 use Rattle.un_sites.specs.Lengths.{precedence_by, precedences_by}
 use Rattle.un_sites.specs.Lengths.{length_by}
-use Rattle.un_sites.specs.Places.{Place, act_by, time_by, places_of}
+use Rattle.un_sites.specs.Places.{Place, act_by, time_by, places_of, definers_of}
 use Rattle.un_sites.specs.Postings.{issue_by, issues_in, with_kind}
+use Rattle.un_sites.specs.Pressures.{block_room, registers_among}
 use Rattle.un_sites.specs.Rooms.{arcs_or}
 use Rattle.un_sites.specs.Saved.{crowded_of, edges_between, owed_by}
 use Rattle.un_sites.specs.declared.edges.Accesses.{Accesses}
 use Rattle.un_post.proofs.Blocks.{blocks, region_places, region_vars, region_close, places_in, regions_met, in_all}
 use Rattle.un_post.proofs.CallBefores.{block_met}
 use Rattle.un_post.proofs.CallOrder.{kept}
-use Rattle.un_post.proofs.Crossed.{heads, tails}
+use Rattle.un_post.proofs.Crossed.{registers, asking_source, heads, tails}
 use Rattle.un_post.proofs.Ends.{region_end}
 use Rattle.un_post.proofs.Facts.{Given, times}
 use Rattle.un_post.proofs.Filled.{heads_filled, tails_filled, end_behind}
@@ -125,14 +126,14 @@ tail_one (Copy node) h = refl
 tail_one Enter h = refl
 tail_one Leave h = refl
 
-call_tail_one : (kind : ExtKind) → is_call_kind kind ≡ true → tail_of kind ≡ 1
-call_tail_one (Body so) h = refl
-call_tail_one In h = absurd (cc h)
-call_tail_one Out h = absurd (cc h)
-call_tail_one (End term) h = absurd (cc h)
-call_tail_one (Copy node) h = absurd (cc h)
-call_tail_one Enter h = absurd (cc h)
-call_tail_one Leave h = absurd (cc h)
+source_tail_one : (kind : ExtKind) → is_source kind ≡ true → tail_of kind ≡ 1
+source_tail_one (Body so) h = refl
+source_tail_one In h = absurd (cc h)
+source_tail_one Out h = absurd (cc h)
+source_tail_one (End term) h = absurd (cc h)
+source_tail_one (Copy node) h = absurd (cc h)
+source_tail_one Enter h = absurd (cc h)
+source_tail_one Leave h = absurd (cc h)
 
 out_task : (kind : ExtKind) → kind ≡ Out → is_task kind ≡ true
 out_task kind e = ap is_task e
@@ -187,8 +188,11 @@ module _ (e : Ext) (o : Options) (x : List ℕ) (given : Given e o x)
     abbrev owed : Accesses
     owed = owed_by (crowded_of (model_of e o)) (edges_between e.blocks) r.block r.owner (region_places r)
 
+    abbrev room : ℕ
+    room = length (registers e o x given schedule r mr)
+
     abbrev made : Place → Task
-    made = task_of e.table (r.block == 0) owed arcs (region_places r)
+    made = task_of e.table room (r.block == 0) owed arcs (region_places r)
 
     abbrev task : Placed → Task
     task q = made (place_of q)
@@ -399,7 +403,7 @@ module _ (e : Ext) (o : Options) (x : List ℕ) (given : Given e o x)
     -- ---- its length
 
     abbrev ops : List Task
-    ops = tasks_in e.table (r.block == 0) owed arcs (region_places r)
+    ops = tasks_in e.table room (r.block == 0) owed arcs (region_places r)
 
     abbrev IsEnded : Task → Type 0
     IsEnded t = cycle_of x t + t.tail ≤ slice_index x close.0
@@ -414,42 +418,44 @@ module _ (e : Ext) (o : Options) (x : List ℕ) (given : Given e o x)
         ap (λ (kind : ExtKind). slice_index x (var_in (time_by q.close kind v.cycle)).0) (out_is q.op.kind out)
         ∙ ap (λ (v : VarId). slice_index x v.0) (sym (region_close r q m))
 
-    -- a call issues behind its Spills and what is ahead of it, and the end behind all
+    -- the end issues behind all, and what asks for Spills behind them and what has issued by its cycle
     begun_task : (q : Placed) → Member q (region_placed r) → is_task q.op.kind ≡ true → IsBegun (task q)
-    begun_task q m t = by (is_call_kind q.op.kind) (is_out q.op.kind) refl refl
+    begun_task q m t = by (is_out q.op.kind) (is_asking room (region_places r) (place_of q)) refl refl
       where
-        by : (b c : Bool) → is_call_kind q.op.kind ≡ b → is_out q.op.kind ≡ c
-            → (if b then call_head e.table (r.block == 0) arcs (region_places r) (place_of q)
-            else (if c then end_head e.table (r.block == 0) owed arcs (region_places r) else 0)) ≤ cycle_of x (task q)
-        by true c k out =
-            let le = heads e o x given schedule r mr q m k in
-            let filled = heads_filled e o x given schedule r mr q m k in
-            let same = cycle_is q t in
-            omega (arith, le, filled, same)
-        by false true k out =
+        by : (b c : Bool) → is_out q.op.kind ≡ b → is_asking room (region_places r) (place_of q) ≡ c
+            → (if b then end_head e.table room (r.block == 0) owed arcs (region_places r)
+            else (if c then asked_head e.table room (r.block == 0) arcs (region_places r) (place_of q) else 0)) ≤ cycle_of x (task q)
+        by true c out k =
             let filled = end_behind e o x given schedule r mr q m in
             let at = end_at q m out in
             omega (arith, filled, at)
-        by false false k out = omega arith
+        by false true out k =
+            let source = asking_source room (region_places r) (place_of q) k in
+            let le = heads e o x given schedule r mr q m source in
+            let filled = heads_filled e o x given schedule r mr q m source in
+            let same = cycle_is q t in
+            omega (arith, le, filled, same)
+        by false false out k = omega arith
 
-    -- and before its Reloads and what is behind it
+    -- and before its Reloads and what issues after it
     ended_task : (q : Placed) → Member q (region_placed r) → is_task q.op.kind ≡ true → IsEnded (task q)
-    ended_task q m t = by (is_call_kind q.op.kind) refl
+    ended_task q m t = by (is_asking room (region_places r) (place_of q)) refl
       where
         own : cycle_of x (task q) + tail_of q.op.kind ≤ slice_index x close.0
         own = subst (λ (v : VarId). cycle_of x (task q) + tail_of q.op.kind ≤ slice_index x v.0) (sym (region_close r q m))
             (ended_one q (in_all e o x r q mr m) t)
 
-        by : (b : Bool) → is_call_kind q.op.kind ≡ b
-            → cycle_of x (task q) + (if b then call_tail e.table arcs (region_places r) (place_of q) else tail_of q.op.kind)
+        by : (b : Bool) → is_asking room (region_places r) (place_of q) ≡ b
+            → cycle_of x (task q) + (if b then asked_tail e.table room arcs (region_places r) (place_of q) else tail_of q.op.kind)
             ≤ slice_index x close.0
         by true k =
             let same = cycle_is q t in
-            let one = call_tail_one q.op.kind k in
+            let source = asking_source room (region_places r) (place_of q) k in
+            let one = source_tail_one q.op.kind source in
             let end : slice_index x close.0 ≡ (issue_at x q).end = ap (λ (v : VarId). slice_index x v.0) (region_close r q m) in
             let inside = own in
-            let le = tails e o x given schedule r mr q m k (omega (arith, same, one, end, inside)) in
-            let filled = tails_filled e o x given schedule r mr q m k in
+            let le = tails e o x given schedule r mr q m source (omega (arith, same, one, end, inside)) in
+            let filled = tails_filled e o x given schedule r mr q m source in
             omega (arith, le, filled, same, end)
         by false k = own
 
@@ -473,7 +479,8 @@ module _ (e : Ext) (o : Options) (x : List ℕ) (given : Given e o x)
 
     length_met : Met x (length_in (model_of e o) r.block r.number r.owner (region_vars r))
     length_met = let owner = r.owner in
-        subst (λ (ps : List Place). Met x (length_by e.table (r.block == 0)
+        subst (λ (ps : List Place). Met x (length_by e.table
+        (length (registers_among (block_room m.domains (definers_of m) ps))) (r.block == 0)
         (owed_by (crowded_of m) (edges_between e.blocks) r.block owner ps) arcs (known_befores m r.block ps) close owner.horizon ps ∷ []))
         (sym (places_in r))
         (fits_holds ops (precedences_by ops (known_befores m r.block (region_places r))) close x fits, tt)

@@ -48,6 +48,7 @@ pub mod Ready
 pub mod Regions
 pub mod RegisterBounds
 pub mod Relaxed
+pub mod RoomOfBlocks
 pub mod SavedLists
 pub mod Slotted
 pub mod Solved

@@ -1,17 +1,12 @@
 -- Each solution has room for the values that are there in each cycle of a block, and for those that cross each call.
-use Rattle.std.proofs.Common.{ℕ, ◌≡◌, ◌<◌, ◌≤◌, ◌+◌, Bool, true, false, List, [], ◌∷◌, ◌++◌, length, map, filter, refl, sym, ap, ◌∙◌}
+use Rattle.std.proofs.Common.{ℕ, ◌≡◌, ◌≤◌, ◌+◌, true, false, List, [], ◌∷◌, ◌++◌, length, map, filter, refl, sym, ap, ◌∙◌}
 use Rattle.std.proofs.Common.{subst, arith}
-use Rattle.std.specs.Prelude.{Option, Some, None, not, nat_eq, nat_le, nat_lt, ◌&&◌, ◌==◌, slice_get, slice_index, count_by}
-use Rattle.std.specs.List.{list_any, range_with_len}
+use Rattle.std.specs.Prelude.{not, nat_le, nat_lt, ◌&&◌, ◌==◌, slice_get}
+use Rattle.std.specs.List.{list_any}
 use Rattle.std.proofs.lemmas.Bool.{eqb-true}
-use Rattle.std.proofs.lemmas.Bool.Decides.{nat_tests}
-use Rattle.std.proofs.lemmas.List.{length-append}
 use Rattle.un_base.specs.declared.ids.TempId.{TempId}
-use Rattle.un_base.specs.declared.ids.VarId.{VarId}
 use Rattle.un_isa.specs.Tables.{in_mask}
-use Rattle.un_isa.specs.declared.reg.TheConstants.{FIRST_SLOT, SLOTS}
 use Rattle.un_domains.specs.declared.domain.Domain.{Domain}
-use Rattle.un_domains.specs.declared.domain.Domain.TheVariants.{Range, Set}
 use Rattle.un_ir.specs.Extended.{temp}
 use Rattle.un_ir.specs.Kinds.{is_call_kind, is_mandatory}
 use Rattle.un_ir.specs.Linear.{first_of}
@@ -21,60 +16,39 @@ use Rattle.un_model.specs.declared.model.Arc.{Arc}
 use Rattle.un_model.specs.declared.model.Options.{Options}
 use Rattle.un_model.specs.Pairs.{joined, places_from}
 use Rattle.un_model.specs.Schedules.{schedule_of}
-use Rattle.un_model.specs.Solutions.{IsSchedule, InDomain, KeepsDomains, latency_gap}
-use Rattle.un_model.specs.Variables.{model_of, arcs_of, domains_of, own_horizon, blocks_domains, blocks_count, register_place}
-use Rattle.un_model.proofs.Lists.{Each, Member, each_of, each_map, member_at, member_map, member_map_of, member_filter, member_of_filter}
-use Rattle.un_model.proofs.Lists.{any_of, place_of as position_of, map-append, get_below, Pairwise, pairwise_map, pairwise_filter}
-use Rattle.un_model.proofs.Numbering.{length-blocks_domains}
-use Rattle.un_model.proofs.OpDomains.{keeps_sits}
-use Rattle.un_model.proofs.Operations.{contains_member}
+use Rattle.un_model.specs.Solutions.{IsSchedule, latency_gap}
+use Rattle.un_model.specs.Variables.{model_of, arcs_of}
+use Rattle.un_model.proofs.Lists.{Member, each_of, each_map, member_map, member_map_of, member_filter, member_of_filter}
+use Rattle.un_model.proofs.Lists.{any_of, place_of as position_of, map-append, Pairwise, pairwise_map, pairwise_filter}
 use Rattle.un_model.proofs.Placed.{Placed, Region, region_placed, issue_at, Spot, spot, spots_of, all_spots}
-use Rattle.un_model.proofs.PlacedSchedules.{all, spots, spot_range, joined_member, member_joined, places_member, definer_in as definer_all}
-use Rattle.un_model.proofs.PlacedSchedules.{get_range}
 use Rattle.un_model.proofs.Readings.{Solved}
 use Rattle.un_prop.specs.Acts.{at_value}
 use Rattle.un_prop.specs.declared.act.At.{At}
-use Rattle.un_press.specs.Pressures.{is_live, living, FitsLive}
+use Rattle.un_press.specs.Pressures.{is_live, living}
 use Rattle.un_press.specs.PressureLaws.{fits_holds}
 use Rattle.un_press.specs.declared.live.Span.{Span}
 use Rattle.un_press.proofs.Counting.{Differ, length_mapped}
-use Rattle.un_press.proofs.Crossings.{reg_of, is_active, across_fits, CoversAll}
-use Rattle.un_press.proofs.Descent.{cycle_at, Reader}
-use Rattle.un_press.proofs.Living.{Living, HasAll, living_fit}
+use Rattle.un_press.proofs.Crossings.{reg_of, across_fits, CoversAll}
+use Rattle.un_press.proofs.Descent.{Reader}
+use Rattle.un_press.proofs.Living.{Living, living_fit}
 use Rattle.un_kinds.specs.Constraints.{Constraint, AllMet, meets}
 use Rattle.un_sites.specs.Crossings.{crossing, reads_value, is_asked}
-use Rattle.un_sites.specs.Places.{Place, Definer, definers_of, definer_or, definers_at, time_of}
-use Rattle.un_sites.specs.Postings.{cycle_var, with_kind}
-use Rattle.un_sites.specs.Pressures.{in_domain, may_have, room_of, spared_room, span_of, own_spans, spans_in, live_by, across_by}
+use Rattle.un_sites.specs.Places.{Place, Definer, definers_of, time_of}
+use Rattle.un_sites.specs.Postings.{with_kind}
+use Rattle.un_sites.specs.Pressures.{spared_room, span_of, own_spans, spans_in, live_by, across_by}
 use Rattle.un_sites.specs.Pressures.{pressure_by, block_room, pressure_in, pressures_of}
-use Rattle.un_sites.specs.Rooms.{arcs_or, temps_in}
-use Rattle.un_post.proofs.Blocks.{blocks, region_places, region_vars, places_in, regions_met, in_all, stands_in}
-use Rattle.un_post.proofs.BlockTemps.{region_spots, spot_all, spots_by_blocks, results_are}
+use Rattle.un_sites.specs.Rooms.{arcs_or}
+use Rattle.un_post.proofs.Blocks.{blocks, region_places, region_vars, places_in, regions_met, in_all}
+use Rattle.un_post.proofs.BlockTemps.{region_spots, spot_all, spots_by_blocks}
 use Rattle.un_post.proofs.Crossed.{by_definer, spots_filter, pairwise_part, Other, different, reads_active}
-use Rattle.un_post.proofs.Crossed.{across, values_many, values_differ, crossed_by, crossed}
-use Rattle.un_post.proofs.Facts.{Given, numbered, times}
-use Rattle.un_post.proofs.Frames.{any_true}
+use Rattle.un_post.proofs.Crossed.{call_keeping, across, values_many, values_differ, crossed_by, crossed}
+use Rattle.un_post.proofs.Facts.{Given, times}
 use Rattle.un_post.proofs.Meeting.{Met}
 use Rattle.un_post.proofs.OneEnter.{filter_map}
-use Rattle.un_post.proofs.Placing.{place_of, definer_at, definer_here}
-use Rattle.un_post.proofs.ReadingModel.{spot_known}
+use Rattle.un_post.proofs.Placing.{place_of}
 use Rattle.un_post.proofs.Regions.{of_region}
-use Rattle.un_post.proofs.Spaces.{bound}
-use Rattle.un_post.proofs.Tests.{and_iff, le_iff, lt_iff, eq_iff}
-
--- ---- domains
-
-is_in : (d : Domain) (v : ℕ) → InDomain v d → in_domain (Some d) v ≡ true
-is_in (Range lo hi) v h = (and_iff (nat_le lo v) (nat_le v hi)).0 ((le_iff lo v).0 h.0, (le_iff v hi).0 h.1)
-is_in (Set values) v h = any_true (nat_eq v) values v (contains_member values v h) ((eq_iff v v).0 refl)
-
-domain_has : (ds : List Domain) (x : List ℕ) (v : ℕ) → KeepsDomains ds x → v < length ds
-    → in_domain (slice_get ds v) (slice_index x v) ≡ true
-domain_has ds x v keeps lt =
-    let d = get_below ds v lt in
-    let z : 0 + v ≡ v = omega arith in
-    ap (λ (c : Option Domain). in_domain c (slice_index x v)) d.1
-    ∙ is_in d.0 (slice_index x v) (subst (λ (n : ℕ). InDomain (slice_index x n) d.0) z (keeps_sits x ds keeps v d.0 d.1))
+use Rattle.un_post.proofs.RoomOfBlocks.{has_room}
+use Rattle.un_post.proofs.Tests.{and_iff, le_iff, lt_iff}
 
 -- ---- values as results
 
@@ -104,55 +78,9 @@ module _ (e : Ext) (o : Options) (x : List ℕ) (given : Given e o x)
   abbrev ds : List Definer
   ds = definers_of (model_of e o)
 
-  -- ---- the register of a result is in its domain
-
-  long : length domains ≡ blocks_count e.blocks + 1
-  long = length-append (blocks_domains e o own_horizon true e.blocks) (Range 0 1 ∷ [])
-      ∙ ap (λ (k : ℕ). k + 1) (length-blocks_domains e o true e.blocks)
-
-  own_domain : (s : Spot) → Member s (spots e o x) → may_have domains (reg_of e o x solved s) (definer_at s) ≡ true
-  own_domain s m =
-      let q = s.definer in
-      let v = q.first + register_place q.op + s.place in
-      let lt = spot_known e o given.extended s m in
-      domain_has domains x v given.domains (omega (arith, lt, long))
-
   module _ (r : Region) (mr : Member r (blocks e o x)) where
     abbrev room : List ℕ
     room = block_room domains ds (region_places r)
-
-    -- a result of an operation of the block is one of the block's
-    of_block : (s : Spot) → Member s (spots e o x) → s.definer.block ≡ r.block → Member s (region_spots r)
-    of_block s m block =
-        let j = joined_member spots_of (all e o x) s m in
-        let u = places_member (spot j.0) 0 (j.0.op).results s j.2 in
-        let same : j.0 ≡ s.definer = ap (λ (s : Spot). s.definer) u.3 in
-        let inside = stands_in e o x r j.0 mr j.1 (ap (λ (p : Placed). p.block) same ∙ block) in
-        member_joined (map spots_of (region_placed r)) (spots_of j.0) s (member_map spots_of (region_placed r) j.0 inside) j.2
-
-    listed : (s : Spot) → Member s (spots e o x) → Member s (region_spots r) → Member (definer_at s) (definers_at ds (temps_in (region_places r)))
-    listed s m inside =
-        let there : Member s.temp (temps_in (region_places r)) = subst (Member s.temp) (sym (results_are (region_placed r)))
-        (member_map (λ (s : Spot). s.temp) (region_spots r) s inside) in
-        let is = definer_here e o x (numbered e o x given) s m (definer_all e o x (numbered e o x given) s m) in
-        subst (λ (d : Definer). Member d (definers_at ds (temps_in (region_places r)))) (ap definer_or is)
-        (member_map (λ (y : TempId). definer_or (slice_get ds y.0)) (temps_in (region_places r)) s.temp there)
-
-    -- there is room for all that is active in the block
-    has_room : (s : Spot) → Member s (spots e o x) → s.definer.block ≡ r.block → Member (reg_of e o x solved s) room
-    unfolding room_of
-    has_room s m block =
-        let reg = reg_of e o x solved s in
-        let options = given.options in
-        let few = options.slots in
-        let lt = bound e o x given s m in
-        let below : reg < FIRST_SLOT + SLOTS = omega (arith, lt, few) in
-        let at : slice_get (range_with_len 0 (FIRST_SLOT + SLOTS)) reg ≡ Some reg =
-        get_range 0 (FIRST_SLOT + SLOTS) reg below ∙ ap (λ (n : ℕ). Some n) (let z : 0 + reg ≡ reg = omega arith in z) in
-        member_filter (λ (k : ℕ). list_any (may_have domains k) (definers_at ds (temps_in (region_places r))))
-        (range_with_len 0 (FIRST_SLOT + SLOTS)) reg (member_at (range_with_len 0 (FIRST_SLOT + SLOTS)) reg reg at)
-        (any_true (may_have domains reg) (definers_at ds (temps_in (region_places r))) (definer_at s)
-        (listed s m (of_block s m block)) (own_domain s m))
 
     -- ---- in each cycle
 
@@ -243,7 +171,7 @@ module _ (e : Ext) (o : Options) (x : List ℕ) (given : Given e o x)
 
     live_fits : (t : ℕ) → living (spans_in readers) x t ≤ length room
     live_fits t =
-        let le = living_fit e o x solved r.block t room (λ s m block active. has_room s m block) (values t)
+        let le = living_fit e o x solved r.block t room (λ s m block active. has_room e o x given schedule r mr s m block) (values t)
         (each_map (Living e o x solved r.block t) (λ (s : Spot). s.temp) (found t)
         (each_of (λ (s : Spot). Living e o x solved r.block t s.temp) (found t) (lives t))) (differ t) in
         let count = counted t in
@@ -263,16 +191,17 @@ module _ (e : Ext) (o : Options) (x : List ℕ) (given : Given e o x)
 
     covers : (c : Placed) → Member c (region_placed r) → CoversAll e o x solved c (spared_room clobbered room)
     covers c mc s m block active spared = member_filter (λ (k : ℕ). not (in_mask clobbered k)) room (reg_of e o x solved s)
-        (has_room s m (block ∙ of_region r c mc)) (ap not spared)
+        (has_room e o x given schedule r mr s m (block ∙ of_region r c mc)) (ap not spared)
 
     across_met : (c : Placed) → Member c (region_placed r) → is_call_kind c.op.kind ≡ true
         → meets (across_by clobbered arcs room (region_places r) (place_of c)) x ≡ true
     across_met c mc call =
-        let vs = across e o x given schedule r mr c mc call false in
-        let many = values_many e o x given schedule r mr c mc call false in
+        let keep = call_keeping e o x given schedule r mr c mc call in
+        let vs = across e o x given schedule r mr c mc keep false in
+        let many = values_many e o x given schedule r mr c mc keep false in
         let le = across_fits e o x solved c (in_all e o x r c mr mc) call (spared_room clobbered room) (covers c mc) vs
-        (each_of _ vs (λ v m. crossed e o x given schedule r mr c mc call false v (crossed_by e o x given schedule r mr c mc call false v m)))
-        (values_differ e o x given schedule r mr c mc call false) in
+        (each_of _ vs (λ v m. crossed e o x given schedule r mr c mc keep false v (crossed_by e o x given schedule r mr c mc keep false v m)))
+        (values_differ e o x given schedule r mr c mc keep false) in
         (le_iff (length (crossing false arcs (region_places r) (place_of c))) (length (spared_room clobbered room))).0
         (omega (arith, le, many))
 

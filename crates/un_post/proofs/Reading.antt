@@ -575,13 +575,13 @@ module _ (n : ℕ) (pos : 0 < n) where
     var_known (Const k) h = pos
     var_known (Var v) h = h.0
 
-    pub length_are : (t : Table) (is_entry : Bool) (owed : Accesses) (arcs : List Arc) (befores : List Constraint) (end : VarId)
+    pub length_are : (t : Table) (room : ℕ) (is_entry : Bool) (owed : Accesses) (arcs : List Arc) (befores : List Constraint) (end : VarId)
         (horizon : ℕ) (ps : List Place) → end.0 < n → horizon ≤ most → Each PlaceIn ps
-        → IsSound n most (length_by t is_entry owed arcs befores end horizon ps)
-    length_are t is_entry owed arcs befores end horizon ps lt le h =
+        → IsSound n most (length_by t room is_entry owed arcs befores end horizon ps)
+    length_are t room is_entry owed arcs befores end horizon ps lt le h =
         let found = with_kind is_task ps in
-        let ops = tasks_in t is_entry owed arcs ps in
-        let made = task_of t is_entry owed arcs ps in
+        let ops = tasks_in t room is_entry owed arcs ps in
+        let made = task_of t room is_entry owed arcs ps in
         record {
           within = two_in (vars_in task_vars ops) (own_var end)
               (each_in task_vars ops (each_map (λ (k : Task). Within (task_vars k)) made found

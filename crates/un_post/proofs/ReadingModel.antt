@@ -51,7 +51,7 @@ use Rattle.un_sites.specs.Places.{Place, Definer, time_by, block_places, places_
 use Rattle.un_sites.specs.Postings.{over_places, of_place, last_place, congruence, over_edge, edges_of}
 use Rattle.un_sites.specs.Postings.{with_kind, leaves_in, frame_by, frame_of}
 use Rattle.un_sites.specs.Postings.{ends_by, limit_of, postings_of}
-use Rattle.un_sites.specs.Pressures.{block_room, pressure_in, pressures_of}
+use Rattle.un_sites.specs.Pressures.{block_room, registers_among, pressure_in, pressures_of}
 use Rattle.un_post.specs.Posts.{largest_horizon}
 use Rattle.un_sites.specs.Rooms.{apart_in, aparts_of, spared_in, spared_at, arcs_or, clobbers_of, packets_in, packets_of, twos_in, twos_of}
 use Rattle.un_sites.specs.Rooms.{rooms_of, temps_in}
@@ -405,7 +405,7 @@ module _ (e : Ext) (o : Options) (extended : IsExtended e) where
       let owner = r.owner in
       let vars = region_vars r in
       let le = most_of 0 (map own_horizon e.blocks) owner.horizon (member_map own_horizon e.blocks owner (owner_member r mr)) in (
-        length_are n pos most e.table (r.block == 0)
+        length_are n pos most e.table (length (registers_among (block_room m.domains the_definers (places_at r)))) (r.block == 0)
             (owed_by (crowded_of m) (edges_between e.blocks) r.block r.owner (places_at r)) (arcs_or (slice_get m.arcs r.block))
             (known_befores m r.block (places_at r)) vars.end owner.horizon (places_at r) (end_known r mr) le (block_known r mr),
         tt,

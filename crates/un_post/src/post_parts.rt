@@ -79,7 +79,7 @@ fn post_implied(
     requires spots { map place_of spots.now ≡ places_of m.now }
     ensures { OnOk result (props.new ≡ props.old ++ (lengths_of m.now ++ pressures_of m.now)) }
 {
-    post_lengths(props, m, spots)?;
+    post_lengths(props, m, sites, spots)?;
     post_pressures(props, m, sites)?;
     Ok(())
 }

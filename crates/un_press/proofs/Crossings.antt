@@ -1,5 +1,5 @@
--- Values that cross a call: what carries them in its cycle has different registers, none of which the call clobbers. So what they are
--- more than the registers that the call keeps are in slots.
+-- Values that are there in the cycle of an operation and are read after it: what carries them then has different registers, none of
+-- which it clobbers, where it is a call. So what they are more than the registers that there are for them are in slots.
 use Rattle.std.proofs.Common.{ℕ, ◌≡◌, ◌<◌, ◌≤◌, ◌+◌, Bool, true, false, List, [], ◌∷◌, length, map, filter, inl, inr, refl, sym}
 use Rattle.std.proofs.Common.{ap, ◌∙◌, subst, arith}
 use Rattle.std.specs.Prelude.{Some, slice_index_or, not, nat_le}
@@ -156,17 +156,17 @@ module _ (e : Ext) (o : Options) (values : List ℕ) (h : Solved e o values) whe
 
   -- ---- values that cross
 
-  -- value v is defined by the cycle of call c, whose result it is not, and is read after that
+  -- value v is defined by the cycle of operation c and is read after that; where c is a call, it is not its result
   pub record Crossing (c : Placed) (v : TempId) : Type 0 where
     pub own : Spot
     pub member : Member own (spots e o values)
     pub is : own.temp ≡ v
     pub early : cycle_at e o values h own.definer ≤ cycle_at e o values h c
-    pub other : own.definer.number ≡ c.number → ⊥
+    pub other : is_call_kind c.op.kind ≡ true → own.definer.number ≡ c.number → ⊥
     pub reader : Reader e o values h v (cycle_at e o values h c)
     pub block : reader.user.block ≡ c.block
 
-  -- such a value with what carries it in the call's cycle
+  -- such a value with what carries it in the operation's cycle
   pub record Carried (c : Placed) : Type 0 where
     pub value : TempId
     pub crossing : Crossing c value
@@ -223,7 +223,7 @@ module _ (e : Ext) (o : Options) (values : List ℕ) (h : Solved e o values) whe
           let value : s.temp ≡ k.value = sym (call_carries s.definer.op.kind s kind) ∙ spot_value in
           let itself = one_spot e o values (numbered e o values h) s x.own spot_member x.member
           (ap (λ (t : TempId). t.0) (value ∙ sym x.is)) in
-          x.other (ap (λ (u : Spot). u.definer.number) (sym itself) ∙ sym same)
+          x.other call (ap (λ (u : Spot). u.definer.number) (sym itself) ∙ sym same)
 
       -- nor does it clobber its register
       pub spot_kept : in_mask (e.table).clobbered (reg_of (spot_in c k)) ≡ false
@@ -261,10 +261,20 @@ module _ (e : Ext) (o : Options) (values : List ℕ) (h : Solved e o values) whe
   abbrev pub Differs : (c : Placed) → Carried c → Carried c → Type 0
   Differs c k l = k.value ≡ l.value → ⊥
 
-  -- of values that cross a call no more than it keeps registers are in registers
-  pub many_in_slots : (c : Placed) → Member c (all e o values) → is_call_kind c.op.kind ≡ true → (kept : List ℕ) → Covers c kept
+  -- what carries a value in the cycle of operation c is in one of these registers, or in a slot
+  abbrev pub HasRegister : Placed → List ℕ → Type 0
+  HasRegister c kept = (k : Carried c) → reg_of (spot_in c k) < REGISTERS → Member (reg_of (spot_in c k)) kept
+
+  -- that of a call is in one that the call keeps
+  pub call_keeps : (c : Placed) → Member c (all e o values) → is_call_kind c.op.kind ≡ true → (kept : List ℕ) → Covers c kept
+      → HasRegister c kept
+  call_keeps c mc call kept covers k low =
+      covers (spot_in c k) (spot_member c k) (spot_block c k) (spot_active c k) low (spot_kept c k mc call)
+
+  -- of such values no more are in registers than there are for them
+  pub many_in_slots : (c : Placed) → (kept : List ℕ) → HasRegister c kept
       → (ks : List (Carried c)) → Pairwise (Differs c) ks → length ks ≤ length kept + length (filter (in_slot c) ks)
-  many_in_slots c mc call kept covers ks differ =
+  many_in_slots c kept has ks differ =
       let low = filter (λ k. not (in_slot c k)) ks in
       let parts = length_parts (in_slot c) ks in
       let regs = map (λ (k : Carried c). reg_of (spot_in c k)) low in
@@ -272,9 +282,8 @@ module _ (e : Ext) (o : Options) (values : List ℕ) (h : Solved e o values) whe
       (pairwise_more (Differs c) (λ k l. reg_of (spot_in c k) ≡ reg_of (spot_in c l) → ⊥) low (λ k l mk ml ne. different c k l ne)
       (pairwise_filter (Differs c) (λ k. not (in_slot c k)) ks differ)) in
       let there : Each (λ x. Member x kept) regs = each_map (λ x. Member x kept) (λ (k : Carried c). reg_of (spot_in c k)) low
-      (each_of (λ k. Member (reg_of (spot_in c k)) kept) low (λ k m. covers (spot_in c k) (spot_member c k) (spot_block c k)
-      (spot_active c k)
-      (below (reg_of (spot_in c k)) (member_of_filter (λ k. not (in_slot c k)) ks k m).1) (spot_kept c k mc call))) in
+      (each_of (λ k. Member (reg_of (spot_in c k)) kept) low
+      (λ k m. has k (below (reg_of (spot_in c k)) (member_of_filter (λ k. not (in_slot c k)) ks k m).1))) in
       let le = pigeons regs kept others there in
       let long = length_mapped (λ (k : Carried c). reg_of (spot_in c k)) low in
       omega (arith, parts, le, long)

@@ -178,7 +178,7 @@ module _ (e : Ext) (o : Options) (values : List ℕ) (h : Solved e o values) whe
       member = is.member;
       is = refl;
       early = is.early;
-      other = is.other;
+      other = λ call. is.other;
       reader = crossing_reader;
       block = is.block;
     }

@@ -8,7 +8,7 @@ use Rattle.un_isa.specs.declared.op.Op.TheVariants.{Reload}
 use Rattle.un_isa.specs.declared.reg.Reg.{Reg}
 use Rattle.un_isa.specs.declared.reg.TheConstants.{FIRST_SLOT, REGISTERS}
 use Rattle.un_ir.specs.Extended.{IsGoodOperand, Want, wants_of, is_copy}
-use Rattle.un_ir.specs.Kinds.{is_call_kind, is_delimiter}
+use Rattle.un_ir.specs.Kinds.{is_delimiter}
 use Rattle.un_ir.specs.declared.extended.ExtKind.{ExtKind}
 use Rattle.un_ir.specs.declared.extended.ExtKind.TheVariants.{In, Out, Body, End, Copy, Enter, Leave}
 use Rattle.un_ir.specs.declared.extended.Operand.{Operand}
@@ -28,7 +28,7 @@ use Rattle.un_model.proofs.TempKinds.{spot_carried}
 use Rattle.un_press.specs.Accesses.{is_reload, reloads_after, Reloads}
 use Rattle.un_press.proofs.Counting.{Differ, length_mapped}
 use Rattle.un_press.proofs.Crossings.{reg_of, Crossing, Carried, carried_all, carried_values, spot_in, spot_member}
-use Rattle.un_press.proofs.Crossings.{spot_value, Covers, in_slot, Differs, many_in_slots, values_differ}
+use Rattle.un_press.proofs.Crossings.{spot_value, HasRegister, in_slot, Differs, many_in_slots, values_differ}
 use Rattle.un_press.proofs.Descent.{cycle_at, Reader, IsOnTheWay}
 use Rattle.un_press.proofs.Needs.{reads_slot}
 use Rattle.un_press.proofs.Spilling.{Several, counted, fewer, three, lt_true, le_true, true_le, same_end, by_end}
@@ -42,7 +42,7 @@ module _ (e : Ext) (o : Options) (values : List ℕ) (h : Solved e o values) whe
   NeedsRegister v t r = (reg : ℕ) → InSpace reg (space_read (issue_at values r.user).instr r.place)
       → IfSome r.operand.home (λ (x : Reg). reg ≡ x.0) → reg < REGISTERS
 
-  -- value v crosses call c to a reader that needs a register
+  -- value v is there in the cycle of operation c, and a reader after it needs a register
   pub record Wanted (c : Placed) (v : TempId) : Type 0 where
     pub crossing : Crossing e o values h c v
     pub needs : NeedsRegister v (cycle c) crossing.reader
@@ -135,7 +135,7 @@ module _ (e : Ext) (o : Options) (values : List ℕ) (h : Solved e o values) whe
   abbrev reader_of : (c : Placed) → Carried e o values h c → Placed
   reader_of c k = let w = k.held in let r = w.reader in r.user
 
-  -- a copy in the block of call c reloads after its cycle, and what it gives is there by the end of the block
+  -- a copy in the block of operation c reloads after its cycle, and what it gives is there by the end of the block
   pub record ReloadedAfter (c p : Placed) : Type 0 where
     pub member : Member p (all e o values)
     pub block : p.block ≡ c.block
@@ -235,28 +235,26 @@ module _ (e : Ext) (o : Options) (values : List ℕ) (h : Solved e o values) whe
         many = omega (arith, len);
       }
 
-  -- The values that cross a call to readers that need a register are reloaded after it, but for as many as there are registers that it
-  -- keeps.
-  pub reload_copies : (c : Placed) → Member c (all e o values) → is_call_kind c.op.kind ≡ true → (kept : List ℕ)
-      → Covers e o values h c kept → (vs : List TempId) → Each (Wanted c) vs → Differ vs
+  -- The values that are there in an operation's cycle and are read after it by what needs a register are reloaded after it, but for as
+  -- many as there are registers for them.
+  pub reload_copies : (c : Placed) → (kept : List ℕ) → HasRegister e o values h c kept → (vs : List TempId) → Each (Wanted c) vs → Differ vs
       → (n : ℕ) → n + length kept ≤ length vs → Several e o values h (ReloadedAfter c) n
-  reload_copies c mc call kept covers vs each differ n few =
+  reload_copies c kept has vs each differ n few =
       let cross = crossings c vs each in
       let ks = carried_all e o values h c vs cross in
       let apart = values_differ e o values h c vs cross differ in
-      let some = many_in_slots e o values h c mc call kept covers ks apart in
+      let some = many_in_slots e o values h c kept has ks apart in
       let a = ap length (carried_values e o values h c vs cross) in
       let b = length_mapped (λ (k : Carried e o values h c). k.value) ks in
       fewer e o values h (ReloadedAfter c) n (length (filter (in_slot e o values h c) ks)) (omega (arith, few, some, a, b))
       (many_reload c ks (all_wanted c vs each) apart)
 
-  pub must_reload : (c : Placed) → Member c (all e o values) → is_call_kind c.op.kind ≡ true → (kept : List ℕ)
-      → Covers e o values h c kept → (vs : List TempId) → Each (Wanted c) vs → Differ vs
+  pub must_reload : (c : Placed) → (kept : List ℕ) → HasRegister e o values h c kept → (vs : List TempId) → Each (Wanted c) vs → Differ vs
       → (n : ℕ) → n + length kept ≤ length vs
       → Reloads (model_of e o) (record { values = values }) c.block (cycle_at e o values h c) n
-  must_reload c mc call kept covers vs each differ n few =
+  must_reload c kept has vs each differ n few =
       counted e o values h (ReloadedAfter c) (reloads_after e.table c.block (cycle c)) n (λ p s. s.member) (λ p s.
       three (p.block == c.block) (is_reload (issue_at values p).instr) (nat_lt (cycle c) (cycle p))
       (nat_le (cycle p + latency_of e.table Reload) (end_of values p)) (eq-eqb p.block c.block s.block) (ap is_reload s.instr)
       (lt_true (cycle c) (cycle p) s.first) (le_true (cycle p + latency_of e.table Reload) (end_of values p) s.last))
-      (reload_copies c mc call kept covers vs each differ n few)
+      (reload_copies c kept has vs each differ n few)

@@ -1,4 +1,4 @@
--- The Spills that values which cross a call owe by it.
+-- The Spills that values which are there in the cycle of an operation and are read after it owe by then.
 use Rattle.std.proofs.Common.{ℕ, zero, suc, ◌≡◌, ◌<◌, ◌≤◌, ◌+◌, Bool, true, false, List, [], ◌∷◌, length, map, filter, inl, inr, refl, sym}
 use Rattle.std.proofs.Common.{ap, ◌∙◌, subst, arith, eq-eqb}
 use Rattle.std.specs.Prelude.{Option, Some, None, slice_get, ◌&&◌, ◌||◌, ◌==◌, nat_le, nat_lt, is_some, IfSome, count_by}
@@ -10,7 +10,7 @@ use Rattle.un_isa.specs.declared.op.Op.{Op}
 use Rattle.un_isa.specs.declared.op.Op.TheVariants.{Spill}
 use Rattle.un_isa.specs.declared.reg.TheConstants.{FIRST_SLOT, REGISTERS}
 use Rattle.un_ir.specs.Extended.{IsGoodKind, IsSourceOp, result_count, is_copy}
-use Rattle.un_ir.specs.Kinds.{is_call_kind, is_delimiter}
+use Rattle.un_ir.specs.Kinds.{is_delimiter}
 use Rattle.un_ir.specs.Linear.{is_in}
 use Rattle.un_ir.specs.declared.extended.ExtKind.{ExtKind}
 use Rattle.un_ir.specs.declared.extended.ExtKind.TheVariants.{In, Out, Body, End, Copy, Enter, Leave}
@@ -36,7 +36,7 @@ use Rattle.un_model.proofs.TempKinds.{carried_at, spot_carried}
 use Rattle.un_press.specs.Accesses.{is_spill, spills_by, Spills}
 use Rattle.un_press.proofs.Counting.{Differ, PassesAt, many_pass, length_mapped}
 use Rattle.un_press.proofs.Crossings.{reg_of, is_active, Crossing, Carried, carried_all, carried_values, spot_in, spot_member, spot_active}
-use Rattle.un_press.proofs.Crossings.{spot_block, spot_there, spot_value, Covers, in_slot, Differs, many_in_slots, values_differ}
+use Rattle.un_press.proofs.Crossings.{spot_block, spot_there, spot_value, HasRegister, in_slot, Differs, many_in_slots, values_differ}
 use Rattle.un_press.proofs.Descent.{cycle_at}
 use Rattle.un_press.proofs.Needs.{no_slot, gives_register, gives_slot}
 
@@ -270,7 +270,7 @@ module _ (e : Ext) (o : Options) (values : List ℕ) (h : Solved e o values) whe
   abbrev cycle : Placed → ℕ
   cycle p = cycle_at e o values h p
 
-  -- value v crosses call c, and has no slot at the start of the block
+  -- value v is there in the cycle of operation c and read after it, and has no slot at the start of the block
   pub record Saved (c : Placed) (v : TempId) : Type 0 where
     pub crossing : Crossing e o values h c v
     pub starts : let u = crossing.own in is_in u.definer.op.kind ≡ true → reg_of e o values h u < REGISTERS
@@ -290,7 +290,7 @@ module _ (e : Ext) (o : Options) (values : List ℕ) (h : Solved e o values) whe
   abbrev spiller : (c : Placed) → Carried e o values h c → Placed
   spiller c k = let s = spot_in e o values h c k in s.definer
 
-  -- a copy in the block of call c spills by its cycle
+  -- a copy in the block of operation c spills by its cycle
   pub record SpilledBy (c p : Placed) : Type 0 where
     pub member : Member p (all e o values)
     pub block : p.block ≡ c.block
@@ -382,27 +382,25 @@ module _ (e : Ext) (o : Options) (values : List ℕ) (h : Solved e o values) whe
   fewer P n m le s = let many = s.many in
       record { listed = s.listed; differ = s.differ; each = s.each; many = omega (arith, le, many) }
 
-  -- The values that cross a call are spilled by its cycle, but for as many as there are registers that it keeps, where they have no
-  -- slots at the start of its block.
-  pub spill_copies : (c : Placed) → Member c (all e o values) → is_call_kind c.op.kind ≡ true → (kept : List ℕ)
-      → Covers e o values h c kept → (vs : List TempId) → Each (Saved c) vs → Differ vs
+  -- The values that are there in an operation's cycle and are read after it are spilled by then, but for as many as there are registers
+  -- for them, where they have no slots at the start of its block.
+  pub spill_copies : (c : Placed) → (kept : List ℕ) → HasRegister e o values h c kept → (vs : List TempId) → Each (Saved c) vs → Differ vs
       → (n : ℕ) → n + length kept ≤ length vs → Several (SpilledBy c) n
-  spill_copies c mc call kept covers vs each differ n few =
+  spill_copies c kept has vs each differ n few =
       let cross = crossings c vs each in
       let ks = carried_all e o values h c vs cross in
       let apart = values_differ e o values h c vs cross differ in
-      let some = many_in_slots e o values h c mc call kept covers ks apart in
+      let some = many_in_slots e o values h c kept has ks apart in
       let a = ap length (carried_values e o values h c vs cross) in
       let b = length_mapped (λ (k : Carried e o values h c). k.value) ks in
       fewer (SpilledBy c) n (length (filter (in_slot e o values h c) ks)) (omega (arith, few, some, a, b))
       (many_spill c ks (all_saved c vs each) apart)
 
-  pub must_spill : (c : Placed) → Member c (all e o values) → is_call_kind c.op.kind ≡ true → (kept : List ℕ)
-      → Covers e o values h c kept → (vs : List TempId) → Each (Saved c) vs → Differ vs
+  pub must_spill : (c : Placed) → (kept : List ℕ) → HasRegister e o values h c kept → (vs : List TempId) → Each (Saved c) vs → Differ vs
       → (n : ℕ) → n + length kept ≤ length vs
       → Spills (model_of e o) (record { values = values }) c.block (cycle_at e o values h c) n
-  must_spill c mc call kept covers vs each differ n few =
+  must_spill c kept has vs each differ n few =
       counted (SpilledBy c) (spills_by c.block (cycle c)) n (λ p s. s.member) (λ p s.
       three (p.block == c.block) (is_spill (issue_at values p).instr) (nat_lt 0 (cycle p)) (nat_le (cycle p) (cycle c))
       (eq-eqb p.block c.block s.block) (ap is_spill s.instr) (lt_true 0 (cycle p) s.first) (le_true (cycle p) (cycle c) s.last))
-      (spill_copies c mc call kept covers vs each differ n few)
+      (spill_copies c kept has vs each differ n few)

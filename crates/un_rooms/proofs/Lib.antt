@@ -1,3 +1,4 @@
+pub mod After
 pub mod CallWalks
 pub mod Gathering
 pub mod Greatest

@@ -2,7 +2,7 @@
 use Rattle.std.proofs.Common.{ℕ, zero, suc, ◌≡◌, ◌≢◌, ◌<◌, ◌≤◌, ◌+◌, ◌-◌, nat_lt, nat_eq}
 use Rattle.std.proofs.Common.{Bool, true, false, inl, inr, refl, sym, ap, subst, ◌∙◌, arith}
 use Rattle.std.proofs.Common.{List, [], ◌∷◌, length, take, drop, set, get_or, get_or-set_same, get_or-set_other, fold, replicate, All}
-use Rattle.std.specs.Prelude.{◌||◌, if◌then◌else◌, Some, slice_get}
+use Rattle.std.specs.Prelude.{◌||◌, ◌&&◌, if◌then◌else◌, Some, slice_get}
 use Rattle.std.specs.List.{list_any}
 use Rattle.std.proofs.lemmas.List.{length-replicate}
 use Rattle.std.proofs.lemmas.Bool.{cases_lt}
@@ -12,7 +12,7 @@ use Rattle.un_model.specs.declared.model.Arc.{Arc}
 use Rattle.un_ir.proofs.NameBounds.{at_all}
 use Rattle.un_model.proofs.Steps.{drop_at}
 use Rattle.un_rooms.specs.Reach.{mark_at, Marks, IsWithin, IsArcWithin, back_by, leading}
-use Rattle.un_sites.specs.Rooms.{led_by, reached}
+use Rattle.un_sites.specs.Rooms.{led_by, reached as reached_from, waits_by}
 
 -- ---- one mark more
 
@@ -88,6 +88,27 @@ back_no low marks a ns h t =
     let led : back_by a ns ≡ ns = ap (λ (b : Bool). if b then a.from.0 ∷ ns else ns) (sym (h a.to.0) ∙ t) in
     subst (Marks low marks) (sym led) h
 
+-- an arc to what waits, of what is reached and what waits so far
+module _ (low : ℕ) (reached late : List Bool) (a : Arc) (ns ms : List ℕ) (r : Marks low reached ns) (h : Marks low late ms) where
+  asked : (mark_at low late a.from.0 || (nat_lt 0 a.gap && mark_at low reached a.from.0))
+      ≡ (has ms a.from.0 || (nat_lt 0 a.gap && has ns a.from.0))
+  asked = ap (λ (b : Bool). b || (nat_lt 0 a.gap && mark_at low reached a.from.0)) (h a.from.0)
+      ∙ ap (λ (b : Bool). has ms a.from.0 || (nat_lt 0 a.gap && b)) (r a.from.0)
+
+  pub waits_yes : (next : List Bool) → IsArcWithin low (length late) a
+      → (mark_at low late a.from.0 || (nat_lt 0 a.gap && mark_at low reached a.from.0)) ≡ true → next ≡ set late (a.to.0 - low) true
+      → Marks low next (waits_by ns ms a)
+  waits_yes next w t g =
+      let led : waits_by ns ms a ≡ a.to.0 ∷ ms = ap (λ (b : Bool). if b then a.to.0 ∷ ms else ms) (sym asked ∙ t) in
+      subst (λ (marks : List Bool). Marks low marks (waits_by ns ms a)) (sym g)
+      (subst (Marks low (set late (a.to.0 - low) true)) (sym led) (marks_more low a.to.0 late ms w.1 h))
+
+  pub waits_no : (mark_at low late a.from.0 || (nat_lt 0 a.gap && mark_at low reached a.from.0)) ≡ false
+      → Marks low late (waits_by ns ms a)
+  waits_no t =
+      let led : waits_by ns ms a ≡ ms = ap (λ (b : Bool). if b then a.to.0 ∷ ms else ms) (sym asked ∙ t) in
+      subst (Marks low late) (sym led) h
+
 -- ---- arcs, one after another
 
 pub fold_next : {A B : Type 0} (f : B → A → B) (start : B) (i : ℕ) (xs : List A) (x : A) → slice_get xs i ≡ Some x
@@ -156,7 +177,7 @@ meets_both (a ∷ arcs) ns c =
     let ms : List ℕ = leading arcs (c ∷ []) in
     meets_both arcs (led_by ns a) c ∙ any_has_swap ms ns (has ns a.from.0) (has ms a.to.0) a refl refl
 
-pub reached_is_leading : (arcs : List Arc) (d c : ℕ) → has (reached arcs d) c ≡ has (leading arcs (c ∷ [])) d
+pub reached_is_leading : (arcs : List Arc) (d c : ℕ) → has (reached_from arcs d) c ≡ has (leading arcs (c ∷ [])) d
 reached_is_leading arcs d c = meets_both arcs (d ∷ []) c ∙ or_none (has (leading arcs (c ∷ [])) d)
 
 -- ---- a loop over the arcs from the last one back

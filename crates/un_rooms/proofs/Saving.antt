@@ -16,7 +16,8 @@ use Rattle.un_model.proofs.Steps.{drop_at, drop_past}
 use Rattle.un_kinds.specs.Constraints.{Constraint}
 use Rattle.un_sites.specs.Befores.{known_befores, length_in}
 use Rattle.un_sites.specs.Lengths.{length_by}
-use Rattle.un_sites.specs.Places.{Place, block_places}
+use Rattle.un_sites.specs.Places.{Place, block_places, definers_of}
+use Rattle.un_sites.specs.Pressures.{block_room, registers_among}
 use Rattle.un_sites.specs.Rooms.{arcs_or}
 use Rattle.un_sites.specs.Saved.{end_operands, reads_alone, read_alone, edges_between, marked_over, marked_after, crowded_of, owed_by}
 use Rattle.un_sites.specs.Sites.{place_of}
@@ -90,21 +91,25 @@ pub block_listed : (old new listed : List Spot) (ps : List Place) → old ≡ []
     → map place_of listed ≡ ps
 block_listed old new listed ps none made is = ap (map place_of) is ∙ made ∙ ap (λ (ss : List Spot). map place_of ss ++ ps) none
 
--- a block's length with what it owes
+-- a block's length with its registers and with what it owes
 pub length_made : (m : Model) (b n : ℕ) (block : ExtBlock) (vars : BlockVars) (made : Constraint) (owed : Accesses) (marks : List Bool)
-    (edges : List Edge) (ps qs : List Place) → marks ≡ crowded_of m → edges ≡ edges_between m.ext.blocks
-    → ps ≡ block_places b n block vars → qs ≡ block_places b n block vars → owed ≡ owed_by marks edges b block ps
-    → made ≡ length_by m.ext.table (b == 0) owed (arcs_or (slice_get m.arcs b)) (known_befores m b qs) vars.end block.horizon qs
+    (edges : List Edge) (registers : ℕ) (ps rs qs : List Place) → marks ≡ crowded_of m → edges ≡ edges_between m.ext.blocks
+    → ps ≡ block_places b n block vars → rs ≡ block_places b n block vars → qs ≡ block_places b n block vars
+    → owed ≡ owed_by marks edges b block ps → registers ≡ length (registers_among (block_room m.domains (definers_of m) rs))
+    → made ≡ length_by m.ext.table registers (b == 0) owed (arcs_or (slice_get m.arcs b)) (known_befores m b qs) vars.end block.horizon qs
     → made ∷ [] ≡ length_in m b n block vars
-length_made m b n block vars made owed marks edges ps qs marked between these those owes is =
+length_made m b n block vars made owed marks edges registers ps rs qs marked between these room those owes counted is =
     let arcs = arcs_or (slice_get m.arcs b) in
+    let count = length (registers_among (block_room m.domains (definers_of m) (block_places b n block vars))) in
     ap (λ (c : Constraint). c ∷ []) (
     is
-    ∙ ap (λ (w : Accesses). length_by m.ext.table (b == 0) w arcs (known_befores m b qs) vars.end block.horizon qs)
+    ∙ ap (λ (k : ℕ). length_by m.ext.table k (b == 0) owed arcs (known_befores m b qs) vars.end block.horizon qs)
+    (counted ∙ ap (λ (zs : List Place). length (registers_among (block_room m.domains (definers_of m) zs))) room)
+    ∙ ap (λ (w : Accesses). length_by m.ext.table count (b == 0) w arcs (known_befores m b qs) vars.end block.horizon qs)
     (owes ∙ ap (λ (ms : List Bool). owed_by ms edges b block ps) marked
     ∙ ap (λ (es : List Edge). owed_by (crowded_of m) es b block ps) between
     ∙ ap (λ (zs : List Place). owed_by (crowded_of m) (edges_between m.ext.blocks) b block zs) these)
-    ∙ ap (λ (zs : List Place). length_by m.ext.table (b == 0)
+    ∙ ap (λ (zs : List Place). length_by m.ext.table count (b == 0)
     (owed_by (crowded_of m) (edges_between m.ext.blocks) b block (block_places b n block vars)) arcs (known_befores m b zs) vars.end
     block.horizon zs) those)
 

@@ -4,16 +4,14 @@ use Rattle.std.proofs.Common.{append_assoc}
 use Rattle.std.specs.Prelude.{Option, Some, fold, slice_get, if◌then◌else◌}
 use Rattle.std.specs.Option.{option_map}
 use Rattle.un_isa.specs.declared.table.Table.{Table}
-use Rattle.un_ir.specs.Kinds.{is_call_kind}
-use Rattle.un_ir.specs.Linear.{is_out}
 use Rattle.un_model.specs.declared.model.Arc.{Arc}
 use Rattle.un_model.proofs.Lists.{slice_get-map}
 use Rattle.un_length.specs.declared.block.Task.{Task}
 use Rattle.un_model.proofs.Steps.{drop_at}
-use Rattle.un_rooms.specs.Demands.{demand_of, end_by, task_by, task_with}
+use Rattle.un_rooms.specs.Demands.{demand_of, end_by, task_by}
 use Rattle.un_rooms.specs.declared.demands.Demand.{Demand}
 use Rattle.un_sites.specs.Crossings.{spills_at}
-use Rattle.un_sites.specs.Lengths.{is_task, owed_head, end_head, call_head, tail_in, most_of, task_of}
+use Rattle.un_sites.specs.Lengths.{is_task, owed_head, end_head, most_of, task_of}
 use Rattle.un_sites.specs.Shares.{has_leave, cycles_with}
 use Rattle.un_sites.specs.Places.{Place}
 use Rattle.un_sites.specs.Postings.{with_kind}
@@ -76,30 +74,24 @@ mapped_twice : {A B C : Type 0} (f : B → C) (g : A → B) (xs : List A) → ma
 mapped_twice f g [] = refl
 mapped_twice f g (x ∷ xs) = ap (λ ys. f (g x) ∷ ys) (mapped_twice f g xs)
 
-head_is : (b c : Bool) (n m : ℕ) → (if b then (if b then n else 0) else (if c then m else 0)) ≡ (if b then n else (if c then m else 0))
-head_is true c n m = refl
-head_is false c n m = refl
-
-module _ (t : Table) (is_entry : Bool) (owed : Accesses) (arcs : List Arc) (ps : List Place) where
+module _ (t : Table) (room : ℕ) (is_entry : Bool) (owed : Accesses) (arcs : List Arc) (ps : List Place) where
   abbrev all : List Demand
-  all = map (demand_of t is_entry arcs ps) ps
+  all = map (demand_of t room is_entry arcs ps) ps
 
-  end_is : end_by t owed ps all ≡ end_head t is_entry owed arcs ps
+  end_is : end_by t owed ps all ≡ end_head t room is_entry owed arcs ps
   end_is =
       ap (λ (ns : List ℕ). max (cycles_with t ps (has_leave ps) (fold max owed.spills ns)
       (fold max owed.reloads (map (λ (d : Demand). d.asked.reloads) all)) + 1) (owed_head t owed))
-      (mapped_twice (λ (d : Demand). d.asked.spills) (demand_of t is_entry arcs ps) ps)
-      ∙ ap (λ (ns : List ℕ). max (cycles_with t ps (has_leave ps) (most_of owed.spills (spills_at t is_entry arcs ps) ps)
+      (mapped_twice (λ (d : Demand). d.asked.spills) (demand_of t room is_entry arcs ps) ps)
+      ∙ ap (λ (ns : List ℕ). max (cycles_with t ps (has_leave ps) (most_of owed.spills (spills_at t room is_entry arcs ps) room ps)
       (fold max owed.reloads ns) + 1) (owed_head t owed))
-      (mapped_twice (λ (d : Demand). d.asked.reloads) (demand_of t is_entry arcs ps) ps)
+      (mapped_twice (λ (d : Demand). d.asked.reloads) (demand_of t room is_entry arcs ps) ps)
 
   pub task_is : (p : Place) (end : ℕ) (demands : List Demand) (d : Demand) → demands ≡ all → end ≡ end_by t owed ps demands
-      → d ≡ demand_of t is_entry arcs ps p → task_by t end p d ≡ task_of t is_entry owed arcs ps p
+      → d ≡ demand_of t room is_entry arcs ps p → task_by t end p d ≡ task_of t room is_entry owed arcs ps p
   task_is p end demands d are is made =
       ap (task_by t end p) made
-      ∙ ap (λ (n : ℕ). task_by t n p (demand_of t is_entry arcs ps p)) (is ∙ ap (end_by t owed ps) are ∙ end_is)
-      ∙ ap (task_with t p (tail_in t arcs ps p)) (head_is (is_call_kind p.it.kind) (is_out p.it.kind) (call_head t is_entry arcs ps p)
-      (end_head t is_entry owed arcs ps))
+      ∙ ap (λ (n : ℕ). task_by t n p (demand_of t room is_entry arcs ps p)) (is ∙ ap (end_by t owed ps) are ∙ end_is)
 
 -- the demand at a place is that of the operation there
 pub demand_at : (f : Place → Demand) (i : ℕ) (spots : List Spot) (p : Spot) (demands : List Demand) (d : Demand)

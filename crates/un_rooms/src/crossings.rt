@@ -79,7 +79,7 @@ pub(crate) fn is_read(in_register: bool, behind: &[Spot<'_>], n: u32) -> bool
 }
 
 /// How many of these values cross a call that has these operations behind it, and these neither ahead of it nor the call.
-fn crossing_count(
+pub(crate) fn crossing_count(
     alloc: Global,
     in_register: bool,
     behind: &[Spot<'_>],

@@ -1,24 +1,30 @@
-//! What the calls of a block ask of it: a call keeps few registers, so of the values that cross it those that are more are spilled by its
-//! cycle and reloaded after it, and with what is ahead of it and behind it they fill cycles.
+//! What the operations of a block ask of it: a call keeps few registers, so of the values that cross it those that are more are spilled by
+//! its cycle and reloaded after it, and with what is ahead of it and behind it they fill cycles. In a block with more values than registers
+//! so does each operation of the source.
 
-ghost use Rattle.std.specs.Prelude.{◌≡◌, ◌+◌, ◌-◌, true, false, All, IfOk, fold, if◌then◌else◌, length, map, max};
-ghost use Rattle.un_ir.specs.Kinds.{is_call_kind};
-ghost use Rattle.un_isa.specs.Registers.{callee_saved};
+ghost use Rattle.std.specs.Prelude.{◌≡◌, ◌+◌, ◌-◌, ◌&&◌, ◌||◌, true, false, All, IfOk, filter, fold, if◌then◌else◌, length, map, max};
+ghost use Rattle.un_ir.specs.Kinds.{is_call_kind, is_source};
 ghost use Rattle.un_isa.specs.Tables.{latency_of};
 ghost use Rattle.un_isa.specs.declared.op.Op.TheVariants.{Reload};
 ghost use Rattle.un_model.specs.declared.model.Arc.{Arc};
 ghost use Rattle.un_rooms.specs.Demands.{demand_of};
 ghost use Rattle.un_rooms.specs.Reach.{IsWithin, IsArcWithin};
-ghost use Rattle.un_sites.specs.Lengths.{head_by, tail_by, tail_of, owed_head};
+ghost use Rattle.un_sites.specs.Crossings.{kept_at, kept_over};
+ghost use Rattle.un_sites.specs.Lengths.{is_full, is_asking, head_by, later_than, tail_by, tail_of, owed_head};
+ghost use Rattle.un_sites.specs.Places.{Place};
+ghost use Rattle.un_sites.specs.Rooms.{is_before};
 ghost use Rattle.un_sites.specs.Shares.{cycles_with};
 ghost use Rattle.un_sites.specs.Sites.{place_of};
 ghost use Rattle.un_sites.specs.declared.sites.Spot.{Spot};
 
+use crate::alive::{after, alive_by, before};
 use crate::call_sides::on_side;
 use crate::crossings::{Crossing, ahead, crossing_by};
+use crate::post_aparts::temps_in;
 use crate::reach::Reach;
 use crate::shares::{cycles_with, has_leave};
-use std::alloc::Global;
+use crate::spans::mandatory_in;
+use std::alloc::{AllocError, Global};
 use un_base::memory_error::NoMemory;
 use un_base::numbers::{later, number};
 use un_ir::extended::ExtKind;
@@ -38,34 +44,65 @@ pub(crate) struct Demand {
     pub(crate) asked: Accesses,
 }
 
-/// How many of so many values are more than a call keeps registers.
-fn past_kept(alloc: Global, t: &Table, values: usize) -> Result<u32, NoMemory>
-    ensures { IfOk result (λ n. n ≡ values - length (callee_saved t.now)) }
-{
-    let kept = callee_saved(alloc, t)?;
-    number(values.saturating_sub(kept.len()))
+/// The registers that a block has for values.
+#[derive(Clone, Copy)]
+pub(crate) struct Room {
+    pub(crate) registers: usize,
+    /// Whether there are more values than registers.
+    pub(crate) is_full: bool,
 }
 
-/// What values that cross a call ask for: no value at the start of the entry is in a slot.
-fn accesses(
-    alloc: Global,
-    t: &Table,
-    is_entry: bool,
-    crossing: Crossing,
-) -> Result<Accesses, NoMemory>
-    ensures spills { IfOk result (λ asked. asked.spills
-        ≡ (if is_entry then crossing.all - length (callee_saved t.now) else 0)) }
-    ensures reloads { IfOk result (λ asked. asked.reloads ≡ crossing.in_registers - length (callee_saved t.now)) }
+/// Whether a block with these operations has more values than registers.
+fn is_full(alloc: Global, registers: usize, spots: &[Spot<'_>]) -> Result<bool, AllocError>
+    ensures { IfOk result (λ b. b ≡ is_full registers (map place_of spots.now)) }
 {
-    let all = past_kept(alloc, t, crossing.all)?;
-    let reloads = past_kept(alloc, t, crossing.in_registers)?;
+    let mandatory = mandatory_in(alloc, spots)?;
+    let values = temps_in(alloc, mandatory.as_slice())?;
+    Ok(registers < values.len())
+}
+
+/// The registers of a block with these operations, which has so many.
+fn room_for(alloc: Global, registers: usize, spots: &[Spot<'_>]) -> Result<Room, AllocError>
+    ensures registers { IfOk result (λ room. room.registers ≡ registers) }
+    ensures full { IfOk result (λ room. room.is_full ≡ is_full registers (map place_of spots.now)) }
+{
+    let is_full = is_full(alloc, registers, spots)?;
+    Ok(Room { registers, is_full })
+}
+
+/// Whether an operation asks for something.
+fn is_asking(room: Room, p: &Spot<'_>) -> bool
+    ensures { result ≡ (is_call_kind p.now.it.now.kind || (is_source p.now.it.now.kind && room.is_full)) }
+{
+    p.it.kind.is_call() || (p.it.kind.is_source() && room.is_full)
+}
+
+/// For how many values that are kept over an operation there are registers: a call keeps few.
+fn kept_at(alloc: Global, t: &Table, registers: usize, o: &Spot<'_>) -> Result<usize, NoMemory>
+    ensures { IfOk result (λ n. n ≡ kept_at t.now registers (place_of o.now)) }
+{
+    if o.it.kind.is_call() {
+        let kept = callee_saved(alloc, t)?;
+        Ok(kept.len())
+    } else {
+        Ok(registers)
+    }
+}
+
+/// What values that are kept over an operation ask for, of which so many have registers: no value at the start of the entry is in a slot.
+fn accesses(kept: usize, is_entry: bool, values: Crossing) -> Result<Accesses, NoMemory>
+    ensures spills { IfOk result (λ asked. asked.spills ≡ (if is_entry then values.all - kept else 0)) }
+    ensures reloads { IfOk result (λ asked. asked.reloads ≡ values.in_registers - kept) }
+{
+    let all = number(values.all.saturating_sub(kept))?;
+    let reloads = number(values.in_registers.saturating_sub(kept))?;
     Ok(Accesses {
         spills: if is_entry { all } else { 0 },
         reloads,
     })
 }
 
-/// The first cycle in which a call has its Spills behind it.
+/// The first cycle in which an operation has its Spills behind it.
 fn head_by(spills: u32) -> Result<u32, NoMemory>
     ensures { IfOk result (λ head. head ≡ head_by spills) }
 {
@@ -75,7 +112,7 @@ fn head_by(spills: u32) -> Result<u32, NoMemory>
     later(spills, 1)
 }
 
-/// How long before its block's end a call issues, for its Reloads.
+/// How long before its block's end an operation issues, for its Reloads.
 fn tail_by(latency: u32, reloads: u32) -> Result<u32, NoMemory>
     ensures { IfOk result (λ tail. tail ≡ tail_by latency reloads) }
 {
@@ -95,7 +132,7 @@ pub(crate) fn owed_head(t: &Table, owed: Accesses) -> Result<u32, NoMemory>
     Ok(spilled.max(reloaded))
 }
 
-/// The first cycle in which a call has these operations, of which it is one, and its Spills behind it.
+/// The first cycle in which an operation has these, of which it is one, and its Spills behind it.
 fn head_with(t: &Table, early: &[Spot<'_>], spills: u32) -> Result<u32, NoMemory>
     ensures { IfOk result (λ head. head ≡ max (head_by spills) (cycles_with t.now (map place_of early.now) false spills 0)) }
 {
@@ -105,7 +142,7 @@ fn head_with(t: &Table, early: &[Spot<'_>], spills: u32) -> Result<u32, NoMemory
     Ok(head.max(cycles))
 }
 
-/// How long before its block's end a call issues, for these operations and its Reloads.
+/// How long before its block's end an operation issues, for these and its Reloads.
 fn tail_with(t: &Table, late: &[Spot<'_>], leaves: bool, reloads: u32) -> Result<u32, NoMemory>
     ensures { IfOk result (λ tail. tail ≡ max (tail_by (latency_of t.now Reload) reloads)
         (cycles_with t.now (map place_of late.now) leaves 0 reloads + 1)) }
@@ -116,36 +153,83 @@ fn tail_with(t: &Table, late: &[Spot<'_>], leaves: bool, reloads: u32) -> Result
     Ok(tail.max(later(cycles, 1)?))
 }
 
-/// What a call asks for.
-fn call_demand<'a>(
+/// Those of the operations that are behind a call, or after another operation.
+fn later_than<'a>(
+    alloc: Global,
+    reach: Reach,
+    arcs: &[Arc],
+    o: &Spot<'_>,
+    spots: &[Spot<'a>],
+) -> Result<Items<Spot<'a>>, AllocError>
+    requires arcs { All (IsArcWithin reach.low reach.count) arcs.now }
+    requires o { IsWithin reach.low reach.count o.now.op }
+    ensures { IfOk result (λ found. map place_of found ≡ later_than arcs.now (map place_of spots.now) (place_of o.now)) }
+{
+    if o.it.kind.is_call() {
+        on_side(alloc, reach, arcs, o, true, spots)
+    } else {
+        after(alloc, reach, arcs, o, spots)
+    }
+}
+
+/// How many values are kept over an operation, where these have issued by its cycle and these issue later.
+fn kept_over(
+    alloc: Global,
+    reach: Reach,
+    arcs: &[Arc],
+    o: &Spot<'_>,
+    spots: &[Spot<'_>],
+    early: &[Spot<'_>],
+    later: &[Spot<'_>],
+) -> Result<Crossing, AllocError>
+    requires arcs { All (IsArcWithin reach.low reach.count) arcs.now }
+    requires o { IsWithin reach.low reach.count o.now.op }
+    requires early { map place_of early.now
+        ≡ filter (λ (d : Place). is_before arcs.now d (place_of o.now)) (map place_of spots.now) }
+    requires later { map place_of later.now ≡ later_than arcs.now (map place_of spots.now) (place_of o.now) }
+    ensures all { IfOk result (λ k. k.all ≡ length (kept_over false arcs.now (map place_of spots.now) (place_of o.now))) }
+    ensures in_registers { IfOk result (λ k. k.in_registers
+        ≡ length (kept_over true arcs.now (map place_of spots.now) (place_of o.now))) }
+{
+    if o.it.kind.is_call() {
+        let ahead = ahead(alloc, reach, arcs, o, spots)?;
+        crossing_by(alloc, reach, arcs, o, spots, ahead.as_slice(), later)
+    } else {
+        alive_by(alloc, reach, arcs, o, spots, early, later)
+    }
+}
+
+/// What an operation asks for that does ask.
+fn asked_demand<'a>(
     alloc: Global,
     t: &Table,
+    registers: usize,
     is_entry: bool,
     reach: Reach,
     arcs: &[Arc],
-    call: &Spot<'a>,
+    o: &Spot<'a>,
     spots: &[Spot<'a>],
 ) -> Result<Demand, NoMemory>
     requires arcs { All (IsArcWithin reach.low reach.count) arcs.now }
-    requires within { IsWithin reach.low reach.count call.now.op }
-    requires call { is_call_kind call.now.it.now.kind ≡ true }
-    ensures { IfOk result (λ d. d ≡ demand_of t.now is_entry arcs.now (map place_of spots.now) (place_of call.now)) }
+    requires within { IsWithin reach.low reach.count o.now.op }
+    requires asking { is_asking registers (map place_of spots.now) (place_of o.now) ≡ true }
+    ensures { IfOk result (λ d. d ≡ demand_of t.now registers is_entry arcs.now (map place_of spots.now) (place_of o.now)) }
 {
-    let behind = on_side(alloc, reach, arcs, call, true, spots)?;
-    let mut early = ahead(alloc, reach, arcs, call, spots)?;
-    let crossing = crossing_by(
+    let early = before(alloc, reach, arcs, o, spots)?;
+    let later = later_than(alloc, reach, arcs, o, spots)?;
+    let values = kept_over(
         alloc,
         reach,
         arcs,
-        call,
+        o,
         spots,
         early.as_slice(),
-        behind.as_slice(),
+        later.as_slice(),
     )?;
-    let asked = accesses(alloc, t, is_entry, crossing)?;
-    early.push(*call)?;
+    let kept = kept_at(alloc, t, registers, o)?;
+    let asked = accesses(kept, is_entry, values)?;
     let head = head_with(t, early.as_slice(), asked.spills)?;
-    let tail = tail_with(t, behind.as_slice(), has_leave(spots), asked.reloads)?;
+    let tail = tail_with(t, later.as_slice(), has_leave(spots), asked.reloads)?;
     Ok(Demand { head, tail, asked })
 }
 
@@ -168,6 +252,7 @@ fn tail_of(kind: &ExtKind) -> u32
 fn demand_of<'a>(
     alloc: Global,
     t: &Table,
+    room: Room,
     is_entry: bool,
     reach: Reach,
     arcs: &[Arc],
@@ -176,10 +261,11 @@ fn demand_of<'a>(
 ) -> Result<Demand, NoMemory>
     requires arcs { All (IsArcWithin reach.low reach.count) arcs.now }
     requires within { IsWithin reach.low reach.count p.now.op }
-    ensures { IfOk result (λ d. d ≡ demand_of t.now is_entry arcs.now (map place_of spots.now) (place_of p.now)) }
+    requires full { room.is_full ≡ is_full room.registers (map place_of spots.now) }
+    ensures { IfOk result (λ d. d ≡ demand_of t.now room.registers is_entry arcs.now (map place_of spots.now) (place_of p.now)) }
 {
-    if p.it.kind.is_call() {
-        return call_demand(alloc, t, is_entry, reach, arcs, p, spots);
+    if is_asking(room, p) {
+        return asked_demand(alloc, t, room.registers, is_entry, reach, arcs, p, spots);
     }
     Ok(Demand {
         head: 0,
@@ -191,10 +277,11 @@ fn demand_of<'a>(
     })
 }
 
-/// What each of a block's operations asks for.
+/// What each of a block's operations asks for, where the block has so many registers.
 pub(crate) fn demands_in(
     alloc: Global,
     t: &Table,
+    registers: usize,
     is_entry: bool,
     reach: Reach,
     arcs: &[Arc],
@@ -203,11 +290,13 @@ pub(crate) fn demands_in(
     requires spots { All (λ (p : Spot). IsWithin reach.low reach.count p.op) spots.now }
     requires arcs { All (IsArcWithin reach.low reach.count) arcs.now }
     ensures { IfOk result (λ demands. demands
-        ≡ map (demand_of t.now is_entry arcs.now (map place_of spots.now)) (map place_of spots.now)) }
+        ≡ map (demand_of t.now registers is_entry arcs.now (map place_of spots.now)) (map place_of spots.now)) }
 {
+    let room = room_for(alloc, registers, spots)?;
     let mut demands = Items::new(alloc);
     for p in spots {
-        demands.push(demand_of(alloc, t, is_entry, reach, arcs, p, spots)?)?;
+        let demand = demand_of(alloc, t, room, is_entry, reach, arcs, p, spots)?;
+        demands.push(demand)?;
     }
     Ok(demands)
 }

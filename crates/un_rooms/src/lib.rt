@@ -2,6 +2,7 @@
 //! operation.
 #![tactic(auto)]
 
+mod alive;
 mod call_rows;
 mod call_sides;
 mod call_waits;

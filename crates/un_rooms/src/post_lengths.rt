@@ -6,14 +6,15 @@ ghost use Rattle.un_kinds.specs.Constraints as constraint;
 ghost use Rattle.un_rooms.specs.Waits.{befores_by};
 ghost use Rattle.un_sites.specs.Befores.{arc_before, befores_in, place_with, known_befores, length_in, lengths_of};
 ghost use Rattle.un_sites.specs.Lengths.{length_by};
-ghost use Rattle.un_sites.specs.Places.{places_of, time_of};
+ghost use Rattle.un_sites.specs.Places.{definers_of, places_of, time_of};
 ghost use Rattle.un_sites.specs.Rooms.{arcs_or};
 ghost use Rattle.un_sites.specs.Saved.{edges_between, crowded_of};
-ghost use Rattle.un_sites.specs.Sites.{place_of};
+ghost use Rattle.un_sites.specs.Sites.{place_of, definers_in};
 
 use crate::call_waits::add_call_waits;
 use crate::crowds::{Crowds, crowds_of, owed_by};
 use crate::post_clobbers::arcs_at;
+use crate::room::register_count;
 use crate::tasks::{precedences_by, tasks_in};
 use crate::wait::Wait;
 use std::alloc::{AllocError, Global};
@@ -29,7 +30,7 @@ use un_lists::items::Items;
 use un_model::model::{Arc, BlockVars, Model};
 use un_prop::act::At;
 use un_sites::edges::Accesses;
-use un_sites::sites::Spot;
+use un_sites::sites::{Site, Spot};
 use un_sites::tables::add_block;
 
 /// The time of the operation with a number; what is not there is at a block's start.
@@ -80,10 +81,11 @@ fn known_waits(
     Ok(waits)
 }
 
-/// The operations of a block that owes so much, with the order among them.
+/// The operations of a block that has so many registers and owes so much, with the order among them.
 fn block_by(
     alloc: Global,
     t: &Table,
+    registers: usize,
     is_entry: bool,
     owed: Accesses,
     known: &[Arc],
@@ -93,9 +95,9 @@ fn block_by(
     spots: &[Spot<'_>],
 ) -> Result<Block, NoMemory>
     ensures { IfOk result (λ b. constraint.Length b.ops b.arcs b.end b.horizon
-        ≡ length_by t.now is_entry owed known.now (befores_by waits.now) end horizon (map place_of spots.now)) }
+        ≡ length_by t.now registers is_entry owed known.now (befores_by waits.now) end horizon (map place_of spots.now)) }
 {
-    let ops = tasks_in(alloc, t, is_entry, owed, known, spots)?;
+    let ops = tasks_in(alloc, t, registers, is_entry, owed, known, spots)?;
     let arcs = precedences_by(alloc, ops.as_slice(), waits)?;
     Ok(Block {
         ops,
@@ -105,19 +107,20 @@ fn block_by(
     })
 }
 
-/// The operations of block `b`, which owes so much, with the order that is known of them.
+/// The operations of block `b`, which has so many registers and owes so much, with the order that is known of them.
 fn known_block(
     alloc: Global,
     m: &Model,
     all: &[Spot<'_>],
     b: u32,
+    registers: usize,
     owed: Accesses,
     end: VarId,
     horizon: u32,
     spots: &[Spot<'_>],
 ) -> Result<Block, NoMemory>
     requires { map place_of all.now ≡ places_of m.now }
-    ensures { IfOk result (λ k. constraint.Length k.ops k.arcs k.end k.horizon ≡ length_by m.now.ext.table (b == 0) owed
+    ensures { IfOk result (λ k. constraint.Length k.ops k.arcs k.end k.horizon ≡ length_by m.now.ext.table registers (b == 0) owed
         (arcs_or (slice_get m.now.arcs b)) (known_befores m.now b (map place_of spots.now)) end horizon (map place_of spots.now)) }
 {
     let waits = known_waits(alloc, m, all, b, spots)?;
@@ -125,6 +128,7 @@ fn known_block(
     let made = block_by(
         alloc,
         &m.ext.table,
+        registers,
         b == 0,
         owed,
         arcs,
@@ -141,12 +145,14 @@ fn block_at(
     alloc: Global,
     m: &Model,
     crowds: &Crowds,
+    sites: &[Site<'_>],
     all: &[Spot<'_>],
     b: u32,
     first: u32,
     block: &ExtBlock,
     vars: &BlockVars,
 ) -> Result<Block, NoMemory>
+    requires sites { definers_in sites.now ≡ definers_of m.now }
     requires all { map place_of all.now ≡ places_of m.now }
     requires edges { crowds.now.edges ≡ edges_between m.now.ext.blocks }
     requires crowded { crowds.now.crowded ≡ crowded_of m.now }
@@ -155,11 +161,13 @@ fn block_at(
     let mut spots = Items::new(alloc);
     add_block(&mut spots, b, first, block, vars)?;
     let owed = owed_by(crowds, b, block, spots.as_slice());
+    let registers = register_count(alloc, m, sites, spots.as_slice())?;
     let made = known_block(
         alloc,
         m,
         all,
         b,
+        registers,
         owed,
         vars.end,
         block.horizon,
@@ -173,25 +181,33 @@ fn post_block(
     props: &mut Props,
     m: &Model,
     crowds: &Crowds,
+    sites: &[Site<'_>],
     all: &[Spot<'_>],
     b: u32,
     first: u32,
     block: &ExtBlock,
     vars: &BlockVars,
 ) -> Result<(), NoMemory>
+    requires sites { definers_in sites.now ≡ definers_of m.now }
     requires all { map place_of all.now ≡ places_of m.now }
     requires edges { crowds.now.edges ≡ edges_between m.now.ext.blocks }
     requires crowded { crowds.now.crowded ≡ crowded_of m.now }
     ensures { OnOk result (props.new ≡ props.old ++ length_in m.now b first block.now vars.now) }
 {
-    let known = block_at(props.alloc(), m, crowds, all, b, first, block, vars)?;
+    let known = block_at(props.alloc(), m, crowds, sites, all, b, first, block, vars)?;
     let made = make_length(props.alloc(), known)?;
     props.push(made)
 }
 
-/// What is posted of the lengths of all blocks of a model, of which this is the table of operations.
-pub fn post_lengths(props: &mut Props, m: &Model, spots: &[Spot<'_>]) -> Result<(), NoMemory>
-    requires { map place_of spots.now ≡ places_of m.now }
+/// What is posted of the lengths of all blocks of a model, of which these are the tables of definers and of operations.
+pub fn post_lengths(
+    props: &mut Props,
+    m: &Model,
+    sites: &[Site<'_>],
+    spots: &[Spot<'_>],
+) -> Result<(), NoMemory>
+    requires sites { definers_in sites.now ≡ definers_of m.now }
+    requires spots { map place_of spots.now ≡ places_of m.now }
     ensures { OnOk result (props.new ≡ props.old ++ lengths_of m.now) }
 {
     let crowds = crowds_of(props.alloc(), m)?;
@@ -199,7 +215,17 @@ pub fn post_lengths(props: &mut Props, m: &Model, spots: &[Spot<'_>]) -> Result<
     for k in 0..m.ext.blocks.len().min(m.blocks.len()) {
         let b = number(k)?;
         let block = m.ext.blocks.get(k);
-        post_block(props, m, &crowds, spots, b, n, block, m.blocks.get(k))?;
+        post_block(
+            props,
+            m,
+            &crowds,
+            sites,
+            spots,
+            b,
+            n,
+            block,
+            m.blocks.get(k),
+        )?;
         n = advance(n, block.ops.len())?;
     }
     Ok(())

@@ -5,7 +5,8 @@ ghost use Rattle.std.specs.List.{list_any, range_with_len};
 ghost use Rattle.un_domains.specs.Sets.{has};
 ghost use Rattle.un_isa.specs.declared.reg.TheConstants.{FIRST_SLOT, SLOTS};
 ghost use Rattle.un_rooms.specs.Marked.{is_marked};
-ghost use Rattle.un_sites.specs.Pressures.{in_domain, may_have, room_of, spared_room, block_room};
+ghost use Rattle.un_sites.specs.Pressures.{in_domain, may_have, room_of, registers_among, spared_room, block_room};
+ghost use Rattle.un_sites.specs.Places.{definers_of};
 ghost use Rattle.un_sites.specs.Sites.{place_of, definer_at, definers_in};
 
 use crate::carried::is_marked;
@@ -15,6 +16,7 @@ use un_base::memory_error::NoMemory;
 use un_domains::domain::Domain;
 use un_isa::reg::{FIRST_SLOT, SLOTS};
 use un_isa::reg_set::is_in_mask;
+use un_model::model::Model;
 use un_sites::sites::{Site, Spot, sites_at};
 
 /// One more than the greatest number of a register or slot.
@@ -134,4 +136,25 @@ pub(crate) fn spared_count(mask: u64, room: &[u32]) -> usize
     ensures { result ≡ length (spared_room mask room.now) }
 {
     room.iter().filter(|r| !is_in_mask(mask, **r)).count()
+}
+
+/// How many registers there are among these places.
+fn registers_among(room: &[u32]) -> usize
+    ensures { result ≡ length (registers_among room.now) }
+{
+    room.iter().filter(|r| **r < FIRST_SLOT).count()
+}
+
+/// How many registers there are in which something of what these operations of a model define may be.
+pub(crate) fn register_count(
+    alloc: Global,
+    m: &Model,
+    sites: &[Site<'_>],
+    spots: &[Spot<'_>],
+) -> Result<usize, NoMemory>
+    requires { definers_in sites.now ≡ definers_of m.now }
+    ensures { IfOk result (λ n. n ≡ length (registers_among (block_room m.now.domains (definers_of m.now) (map place_of spots.now)))) }
+{
+    let room = block_room(alloc, m.domains.as_slice(), sites, spots)?;
+    Ok(registers_among(&room))
 }

@@ -17,7 +17,7 @@ use un_model::ends::live_in_temps;
 use un_sites::sites::Spot;
 
 /// Whether it is a block's end.
-fn is_out(kind: &ExtKind) -> bool
+pub(crate) fn is_out(kind: &ExtKind) -> bool
     ensures { result ≡ is_out kind.now }
 {
     matches!(kind, ExtKind::Out)

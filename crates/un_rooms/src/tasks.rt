@@ -1,7 +1,6 @@
 //! What a block issues in every solution, as the propagator of its length names it.
 
 ghost use Rattle.std.specs.Prelude.{◌≡◌, ◌+◌, ◌<◌, ◌++◌, All, IfOk, OnOk, map, length, if◌then◌else◌, [], ◌∷◌};
-ghost use Rattle.un_ir.specs.Kinds.{is_call_kind};
 ghost use Rattle.un_ir.specs.Linear.{is_out};
 ghost use Rattle.un_length.specs.Places.{Leads};
 ghost use Rattle.un_rooms.specs.Demands.{end_by, task_by};
@@ -10,6 +9,7 @@ ghost use Rattle.un_sites.specs.Lengths.{is_task, var_in, tasks_in, task_place, 
 ghost use Rattle.un_sites.specs.Sites.{place_of};
 
 use crate::demands::{Demand, demands_in, most, owed_head};
+use crate::saved::is_out;
 use crate::shares::{cycles_with, has_leave};
 use crate::span::reach_of;
 use crate::wait::Wait;
@@ -46,20 +46,9 @@ fn is_task(kind: &ExtKind) -> bool
 
 /// The first cycle of an operation, of which the demand is known, in a block whose end has the head `end`.
 fn head_of(kind: &ExtKind, end: u32, demand: Demand) -> u32
-    ensures { result ≡ (if is_call_kind kind.now then demand.head else (if is_out kind.now then end else 0)) }
+    ensures { result ≡ (if is_out kind.now then end else demand.head) }
 {
-    if kind.is_call() {
-        return demand.head;
-    }
-    match kind {
-        ExtKind::Out => end,
-        ExtKind::In => 0,
-        ExtKind::Body(_) => 0,
-        ExtKind::End(_) => 0,
-        ExtKind::Copy(_) => 0,
-        ExtKind::Enter => 0,
-        ExtKind::Leave => 0,
-    }
+    if is_out(kind) { end } else { demand.head }
 }
 
 /// An operation as what takes a place before the end.
@@ -106,19 +95,20 @@ fn end_of(
     Ok(filled.max(accessed))
 }
 
-/// Those of a block's operations that every solution issues, and its end, of a block that owes so much.
+/// Those of a block's operations that every solution issues, and its end, of a block that has so many registers and owes so much.
 pub(crate) fn tasks_in(
     alloc: Global,
     t: &Table,
+    registers: usize,
     is_entry: bool,
     owed: Accesses,
     arcs: &[Arc],
     spots: &[Spot<'_>],
 ) -> Result<Items<Task>, NoMemory>
-    ensures { IfOk result (λ ops. ops ≡ tasks_in t.now is_entry owed arcs.now (map place_of spots.now)) }
+    ensures { IfOk result (λ ops. ops ≡ tasks_in t.now registers is_entry owed arcs.now (map place_of spots.now)) }
 {
     let reach = reach_of(spots, arcs);
-    let demands = demands_in(alloc, t, is_entry, reach, arcs, spots)?;
+    let demands = demands_in(alloc, t, registers, is_entry, reach, arcs, spots)?;
     let end = end_of(t, owed, spots, demands.as_slice())?;
     let mut ops = Items::new(alloc);
     for i in 0..spots.len() {

@@ -1,5 +1,5 @@
 -- What is posted of the arcs of a model and of the lengths of its blocks, and the whole list of what is posted for it.
-use Rattle.std.specs.Prelude.{ℕ, ◌==◌, List, [], ◌∷◌, ◌++◌, Option, Some, None, map, slice_get}
+use Rattle.std.specs.Prelude.{ℕ, ◌==◌, List, [], ◌∷◌, ◌++◌, Option, Some, None, length, map, slice_get}
 use Rattle.un_ir.specs.declared.extended.ExtBlock.{ExtBlock}
 use Rattle.un_model.specs.declared.model.Arc.{Arc}
 use Rattle.un_model.specs.declared.model.BlockVars.{BlockVars}
@@ -9,9 +9,9 @@ use Rattle.un_prop.specs.declared.act.Act.TheVariants.{Always}
 use Rattle.un_kinds.specs.Constraints.{Constraint, Before}
 use Rattle.un_sites.specs.CallBefores.{call_befores_by}
 use Rattle.un_sites.specs.Lengths.{length_by}
-use Rattle.un_sites.specs.Places.{Place, no_place, time_of, block_places, places_of}
+use Rattle.un_sites.specs.Places.{Place, no_place, time_of, block_places, places_of, definers_of}
 use Rattle.un_sites.specs.Postings.{postings_of}
-use Rattle.un_sites.specs.Pressures.{pressures_of}
+use Rattle.un_sites.specs.Pressures.{block_room, pressures_of, registers_among}
 use Rattle.un_sites.specs.Rooms.{arcs_or, rooms_of}
 use Rattle.un_sites.specs.Saved.{crowded_of, edges_between, owed_by}
 use Rattle.un_sites.specs.declared.edges.Accesses.{Accesses}
@@ -50,7 +50,8 @@ length_in m b n block vars =
     let ps : List Place = block_places b n block vars in
     let arcs : List Arc = arcs_or (slice_get m.arcs b) in
     let owed : Accesses = owed_by (crowded_of m) (edges_between m.ext.blocks) b block ps in
-    length_by m.ext.table (b == 0) owed arcs (known_befores m b ps) vars.end block.horizon ps ∷ []
+    let room : ℕ = length (registers_among (block_room m.domains (definers_of m) ps)) in
+    length_by m.ext.table room (b == 0) owed arcs (known_befores m b ps) vars.end block.horizon ps ∷ []
 
 -- one block after another
 abbrev pub lengths_of : Model → List Constraint

@@ -1,21 +1,23 @@
 -- What crosses a call: the values that are there before it, and are read behind it or go into what is. A call keeps few registers, so
--- of the values that cross it those that are more are spilled by its cycle and reloaded after it.
+-- of the values that cross it those that are more are spilled by its cycle and reloaded after it. So are values that are there in the
+-- cycle of another operation and are read after it, where they are more than the block has registers for.
 use Rattle.std.specs.Prelude.{ℕ, ◌-◌, ◌==◌, nat_lt, Bool, false, true, not, ◌&&◌, ◌||◌, if◌then◌else◌, List, [], ◌∷◌, ◌++◌}
 use Rattle.std.specs.Prelude.{Option, Some, None, filter, length}
 use Rattle.std.specs.List.{list_any}
 use Rattle.std.specs.Option.{option_to_list}
 use Rattle.un_base.specs.declared.ids.TempId.{TempId}
+use Rattle.un_domains.specs.Sets.{has}
 use Rattle.un_isa.specs.Registers.{callee_saved}
 use Rattle.un_isa.specs.declared.reg.Reg.{Reg}
 use Rattle.un_isa.specs.declared.reg.TheConstants.{FIRST_SLOT}
 use Rattle.un_isa.specs.declared.table.Table.{Table}
-use Rattle.un_ir.specs.Kinds.{is_delimiter, is_mandatory, is_source}
-use Rattle.un_ir.specs.Linear.{first_of}
+use Rattle.un_ir.specs.Kinds.{ends_block, is_call_kind, is_delimiter, is_mandatory, is_source}
+use Rattle.un_ir.specs.Linear.{first_of, is_out}
 use Rattle.un_ir.specs.declared.extended.ExtKind.{ExtKind}
 use Rattle.un_ir.specs.declared.extended.Operand.{Operand}
 use Rattle.un_model.specs.declared.model.Arc.{Arc}
 use Rattle.un_sites.specs.Places.{Place}
-use Rattle.un_sites.specs.Rooms.{is_before, is_behind, temps_in}
+use Rattle.un_sites.specs.Rooms.{is_before, is_behind, temps_in, waiting}
 
 -- ---- values
 
@@ -76,10 +78,40 @@ crossing in_register arcs ps call =
     filter (is_crossing in_register (filter (is_behind arcs call) ps) (filter (is_loose arcs call) ps))
     (temps_in (filter (is_ahead arcs call) ps))
 
+-- ---- another operation
+
+-- an operation of the source that need not have issued by the cycle of operation o
+abbrev pub is_free : List Arc → Place → Place → Bool
+is_free arcs o p = is_source p.it.kind && not (is_before arcs p o)
+
+-- an operation of the source waits for operation o
+abbrev pub has_follower : List Arc → List Place → Place → Bool
+has_follower arcs ps o = list_any (λ (p : Place). is_source p.it.kind && has (waiting arcs o.op) p.op) ps
+
+-- an operation issues after operation o, whatever the cycles: the block's end, what waits for o, and, where one of the source does, the
+-- terminator, which issues last
+abbrev pub is_after : List Arc → List Place → Place → Place → Bool
+is_after arcs ps o p = (if has_follower arcs ps o then ends_block p.it.kind else is_out p.it.kind) || has (waiting arcs o.op) p.op
+
+-- the values that are there in the cycle of operation o, as its own results are, and cross to what is after it
+abbrev pub alive : Bool → List Arc → List Place → Place → List TempId
+alive in_register arcs ps o = filter (is_crossing in_register (filter (is_after arcs ps o) ps) (filter (is_free arcs o) ps))
+    (temps_in (filter (λ (d : Place). is_before arcs d o) ps))
+
+-- ---- spills and reloads
+
+-- the values that are there in an operation's cycle and are read after it, or those of them that are read in registers
+abbrev pub kept_over : Bool → List Arc → List Place → Place → List TempId
+kept_over in_register arcs ps o = if is_call_kind o.it.kind then crossing in_register arcs ps o else alive in_register arcs ps o
+
+-- for how many of them there are registers, in a block that has so many: a call keeps few
+abbrev pub kept_at : Table → ℕ → Place → ℕ
+kept_at t room o = if is_call_kind o.it.kind then length (callee_saved t) else room
+
 -- how many of them are spilled: no value at the start of the entry is in a slot
-abbrev pub spills_at : Table → Bool → List Arc → List Place → Place → ℕ
-spills_at t is_entry arcs ps call = if is_entry then length (crossing false arcs ps call) - length (callee_saved t) else 0
+abbrev pub spills_at : Table → ℕ → Bool → List Arc → List Place → Place → ℕ
+spills_at t room is_entry arcs ps o = if is_entry then length (kept_over false arcs ps o) - kept_at t room o else 0
 
 -- and how many reloaded
-abbrev pub reloads_at : Table → List Arc → List Place → Place → ℕ
-reloads_at t arcs ps call = length (crossing true arcs ps call) - length (callee_saved t)
+abbrev pub reloads_at : Table → ℕ → List Arc → List Place → Place → ℕ
+reloads_at t room arcs ps o = length (kept_over true arcs ps o) - kept_at t room o

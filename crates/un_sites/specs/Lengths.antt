@@ -7,7 +7,7 @@ use Rattle.un_isa.specs.declared.op.Op.TheVariants.{Reload}
 use Rattle.un_isa.specs.declared.table.Table.{Table}
 use Rattle.un_ir.specs.declared.extended.ExtKind.{ExtKind}
 use Rattle.un_ir.specs.declared.extended.ExtKind.TheVariants.{Out}
-use Rattle.un_ir.specs.Kinds.{is_source, is_call_kind, ends_block}
+use Rattle.un_ir.specs.Kinds.{is_source, is_call_kind, is_mandatory, ends_block}
 use Rattle.un_ir.specs.Linear.{is_out}
 use Rattle.un_model.specs.Arcs.{own_instr}
 use Rattle.un_model.specs.Instructions.{needs_by}
@@ -20,10 +20,10 @@ use Rattle.un_prop.specs.declared.act.At.TheVariants.{Const, Var}
 use Rattle.un_length.specs.declared.block.Precedence.{Precedence}
 use Rattle.un_length.specs.declared.block.Task.{Task}
 use Rattle.un_kinds.specs.Constraints.{Constraint, Before, Length}
-use Rattle.un_sites.specs.Crossings.{is_ahead, spills_at, reloads_at}
+use Rattle.un_sites.specs.Crossings.{is_after, spills_at, reloads_at}
 use Rattle.un_sites.specs.Places.{Place, time_of}
 use Rattle.un_sites.specs.Postings.{with_kind}
-use Rattle.un_sites.specs.Rooms.{is_behind}
+use Rattle.un_sites.specs.Rooms.{is_before, is_behind, temps_in}
 use Rattle.un_sites.specs.Shares.{has_leave, cycles_with}
 use Rattle.un_sites.specs.declared.edges.Accesses.{Accesses}
 
@@ -43,65 +43,77 @@ abbrev pub var_in : At → VarId
 var_in (Const n) = var_at 0
 var_in (Var v) = v
 
--- A call issues by no earlier cycle than its Spills have room for, of which there is one a cycle, from the one after the frame's Enter on.
+-- A block has more values than registers.
+abbrev pub is_full : ℕ → List Place → Bool
+is_full room ps = nat_lt room (length (temps_in (with_kind is_mandatory ps)))
+
+-- A call asks for Spills and Reloads, and in a block that has more values than registers each operation of the source.
+abbrev pub is_asking : ℕ → List Place → Place → Bool
+is_asking room ps p = is_call_kind p.it.kind || (is_source p.it.kind && is_full room ps)
+
+-- It issues by no earlier cycle than its Spills have room for, of which there is one a cycle, from the one after the frame's Enter on.
 abbrev pub head_by : ℕ → ℕ
 head_by spills = if spills == 0 then 0 else spills + 1
 
--- Between a call and the end its Reloads have room, of which there are two a cycle, and what they give is ready by the end.
+-- Between it and the end its Reloads have room, of which there are two a cycle, and what they give is ready by the end.
 abbrev pub tail_by : ℕ → ℕ → ℕ
 tail_by latency reloads = if reloads == 0 then 1 else latency + (reloads + 1) / 2
 
--- What is ahead of a call, the call and its Spills issue by its cycle.
-abbrev pub cycles_by : Table → Bool → List Arc → List Place → Place → ℕ
-cycles_by t is_entry arcs ps call =
-    cycles_with t (filter (is_ahead arcs call) ps ++ call ∷ []) false (spills_at t is_entry arcs ps call) 0
+-- What has issued by its cycle, itself among it, and its Spills issue by then.
+abbrev pub cycles_by : Table → ℕ → Bool → List Arc → List Place → Place → ℕ
+cycles_by t room is_entry arcs ps o =
+    cycles_with t (filter (λ (d : Place). is_before arcs d o) ps) false (spills_at t room is_entry arcs ps o) 0
 
--- What is behind it and its Reloads issue between it and the end.
-abbrev pub cycles_after : Table → List Arc → List Place → Place → ℕ
-cycles_after t arcs ps call = cycles_with t (filter (is_behind arcs call) ps) (has_leave ps) 0 (reloads_at t arcs ps call)
+-- what is behind a call, and what is after another operation
+abbrev pub later_than : List Arc → List Place → Place → List Place
+later_than arcs ps o = if is_call_kind o.it.kind then filter (is_behind arcs o) ps else filter (is_after arcs ps o) ps
 
--- the greatest of what is owed and what is asked for the calls among these
-abbrev pub most_of : ℕ → (Place → ℕ) → List Place → ℕ
-most_of owed f ps = fold max owed (map (λ (p : Place). if is_call_kind p.it.kind then f p else 0) ps)
+-- That and its Reloads issue between it and the end.
+abbrev pub cycles_after : Table → ℕ → List Arc → List Place → Place → ℕ
+cycles_after t room arcs ps o = cycles_with t (later_than arcs ps o) (has_leave ps) 0 (reloads_at t room arcs ps o)
 
--- All that a block issues is before its end, with the Spills of the call that has most and the Reloads of the call that has most, or with
--- those that it owes for its neighbours.
-abbrev pub cycles_in : Table → Bool → Accesses → List Arc → List Place → ℕ
-cycles_in t is_entry owed arcs ps =
-    cycles_with t ps (has_leave ps) (most_of owed.spills (spills_at t is_entry arcs ps) ps) (most_of owed.reloads (reloads_at t arcs ps) ps)
+-- the greatest of what is owed and of what those that ask for something ask for
+abbrev pub most_of : ℕ → (Place → ℕ) → ℕ → List Place → ℕ
+most_of owed f room ps = fold max owed (map (λ (p : Place). if is_asking room ps p then f p else 0) ps)
+
+-- All that a block issues is before its end, with the most Spills and the most Reloads that one of its operations asks for, or with those
+-- that it owes for its neighbours.
+abbrev pub cycles_in : Table → ℕ → Bool → Accesses → List Arc → List Place → ℕ
+cycles_in t room is_entry owed arcs ps = cycles_with t ps (has_leave ps)
+    (most_of owed.spills (spills_at t room is_entry arcs ps) room ps) (most_of owed.reloads (reloads_at t room arcs ps) room ps)
 
 -- By the end the Spills that a block owes are behind Enter, and what its Reloads give is ready.
 abbrev pub owed_head : Table → Accesses → ℕ
 owed_head t owed = max (head_by owed.spills + 1) (tail_by (latency_of t Reload) owed.reloads)
 
-abbrev pub end_head : Table → Bool → Accesses → List Arc → List Place → ℕ
-end_head t is_entry owed arcs ps = max (cycles_in t is_entry owed arcs ps + 1) (owed_head t owed)
+abbrev pub end_head : Table → ℕ → Bool → Accesses → List Arc → List Place → ℕ
+end_head t room is_entry owed arcs ps = max (cycles_in t room is_entry owed arcs ps + 1) (owed_head t owed)
 
-abbrev pub call_head : Table → Bool → List Arc → List Place → Place → ℕ
-call_head t is_entry arcs ps call = max (head_by (spills_at t is_entry arcs ps call)) (cycles_by t is_entry arcs ps call)
+abbrev pub asked_head : Table → ℕ → Bool → List Arc → List Place → Place → ℕ
+asked_head t room is_entry arcs ps o = max (head_by (spills_at t room is_entry arcs ps o)) (cycles_by t room is_entry arcs ps o)
 
-abbrev pub call_tail : Table → List Arc → List Place → Place → ℕ
-call_tail t arcs ps call = max (tail_by (latency_of t Reload) (reloads_at t arcs ps call)) (cycles_after t arcs ps call + 1)
+abbrev pub asked_tail : Table → ℕ → List Arc → List Place → Place → ℕ
+asked_tail t room arcs ps o = max (tail_by (latency_of t Reload) (reloads_at t room arcs ps o)) (cycles_after t room arcs ps o + 1)
 
-abbrev pub head_of : Table → Bool → Accesses → List Arc → List Place → Place → ℕ
-head_of t is_entry owed arcs ps p =
-    if is_call_kind p.it.kind then call_head t is_entry arcs ps p
-    else (if is_out p.it.kind then end_head t is_entry owed arcs ps else 0)
+abbrev pub head_of : Table → ℕ → Bool → Accesses → List Arc → List Place → Place → ℕ
+head_of t room is_entry owed arcs ps p =
+    if is_out p.it.kind then end_head t room is_entry owed arcs ps
+    else (if is_asking room ps p then asked_head t room is_entry arcs ps p else 0)
 
-abbrev pub tail_in : Table → List Arc → List Place → Place → ℕ
-tail_in t arcs ps p = if is_call_kind p.it.kind then call_tail t arcs ps p else tail_of p.it.kind
+abbrev pub tail_in : Table → ℕ → List Arc → List Place → Place → ℕ
+tail_in t room arcs ps p = if is_asking room ps p then asked_tail t room arcs ps p else tail_of p.it.kind
 
 -- the end takes the place of an instruction in its own cycle, where nothing else is
-abbrev pub task_of : Table → Bool → Accesses → List Arc → List Place → Place → Task
-task_of t is_entry owed arcs ps p = record {
+abbrev pub task_of : Table → ℕ → Bool → Accesses → List Arc → List Place → Place → Task
+task_of t room is_entry owed arcs ps p = record {
   at = var_in (time_of p);
-  head = head_of t is_entry owed arcs ps p;
-  tail = tail_in t arcs ps p;
+  head = head_of t room is_entry owed arcs ps p;
+  tail = tail_in t room arcs ps p;
   needs = needs_by t (own_instr p.it);
 }
 
-abbrev pub tasks_in : Table → Bool → Accesses → List Arc → List Place → List Task
-tasks_in t is_entry owed arcs ps = map (task_of t is_entry owed arcs ps) (with_kind is_task ps)
+abbrev pub tasks_in : Table → ℕ → Bool → Accesses → List Arc → List Place → List Task
+tasks_in t room is_entry owed arcs ps = map (task_of t room is_entry owed arcs ps) (with_kind is_task ps)
 
 -- ---- their order
 
@@ -125,6 +137,6 @@ precedences_by ops befores = joined (map (precedence_by ops) befores)
 -- ---- a block
 
 -- these operations have room before this end, in this order
-abbrev pub length_by : Table → Bool → Accesses → List Arc → List Constraint → VarId → ℕ → List Place → Constraint
-length_by t is_entry owed arcs befores end horizon ps =
-    let ops : List Task = tasks_in t is_entry owed arcs ps in Length ops (precedences_by ops befores) end horizon
+abbrev pub length_by : Table → ℕ → Bool → Accesses → List Arc → List Constraint → VarId → ℕ → List Place → Constraint
+length_by t room is_entry owed arcs befores end horizon ps =
+    let ops : List Task = tasks_in t room is_entry owed arcs ps in Length ops (precedences_by ops befores) end horizon

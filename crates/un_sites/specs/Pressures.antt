@@ -1,5 +1,5 @@
 -- What is posted of pressure: in each cycle of a block, and across each of its calls, there is room for the values that are there.
-use Rattle.std.specs.Prelude.{ℕ, ◌+◌, Bool, false, not, ◌&&◌, nat_le, List, [], ◌∷◌, Option, Some, None, filter, length, map, slice_get}
+use Rattle.std.specs.Prelude.{ℕ, ◌+◌, Bool, false, not, ◌&&◌, nat_le, nat_lt, List, [], ◌∷◌, Option, Some, None, filter, length, map, slice_get}
 use Rattle.std.specs.List.{list_any, range_with_len}
 use Rattle.un_base.specs.declared.ids.TempId.{TempId}
 use Rattle.un_isa.specs.Tables.{in_mask}
@@ -35,6 +35,10 @@ may_have domains r d = in_domain (slice_get domains d.reg.0) r
 -- the registers and slots in which something of what these definers give may be
 unfoldable pub room_of : List Domain → List Definer → List ℕ
 room_of domains ds = filter (λ (r : ℕ). list_any (may_have domains r) ds) (range_with_len 0 (FIRST_SLOT + SLOTS))
+
+-- those of them that are registers
+abbrev pub registers_among : List ℕ → List ℕ
+registers_among room = filter (λ (r : ℕ). nat_lt r FIRST_SLOT) room
 
 -- those of them that a call leaves as they are
 abbrev pub spared_room : ℕ → List ℕ → List ℕ

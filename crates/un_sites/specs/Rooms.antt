@@ -1,6 +1,6 @@
 -- What is posted of the registers, the calls and the packets of each block, and of each two operands of an operation.
 use Rattle.std.specs.Prelude.{ℕ, ◌+◌, ◌==◌, Bool, true, false, not, ◌&&◌, ◌||◌, fold, List, [], ◌∷◌, ◌++◌, Option, Some, None, map, filter}
-use Rattle.std.specs.Prelude.{slice_get, if◌then◌else◌}
+use Rattle.std.specs.Prelude.{slice_get, if◌then◌else◌, nat_lt}
 use Rattle.un_base.specs.declared.ids.TempId.{TempId}
 use Rattle.un_base.specs.declared.ids.VarId.{VarId}
 use Rattle.un_isa.specs.declared.op.Op.{Op}
@@ -72,6 +72,14 @@ led_by reached a = if has reached a.from.0 then a.to.0 ∷ reached else reached
 -- the operations that operation n reaches by arcs, which stand by rising ends, and itself
 abbrev pub reached : List Arc → ℕ → List ℕ
 reached arcs n = fold led_by (n ∷ []) arcs
+
+-- an arc with a gap leads from what is reached to what waits, and each arc on from that
+abbrev pub waits_by : List ℕ → List ℕ → Arc → List ℕ
+waits_by reached late a = if has late a.from.0 || (nat_lt 0 a.gap && has reached a.from.0) then a.to.0 ∷ late else late
+
+-- the operations that issue after operation n, whatever the cycles: it reaches them by arcs of which one has a gap
+abbrev pub waiting : List Arc → ℕ → List ℕ
+waiting arcs n = fold (waits_by (reached arcs n)) [] arcs
 
 -- a temporary is defined before a call, whatever the cycles: at the block's start, or by what reaches the call
 abbrev pub is_before : List Arc → Place → Place → Bool
