@@ -1,4 +1,4 @@
-//! Texts of reports: read back and printed again, and their first bad lines.
+//! Texts of reports: read back and printed again, and their first bad lines; and texts of numbers alone.
 
 use crate::rows::{About, all_answered, cut, number_at};
 use std::alloc::Global;
@@ -6,7 +6,7 @@ use un_base::memory_error::NoMemory;
 use un_ir::text::{put_number, put_text};
 use un_report::print::print_report;
 use un_report_reader::error::ReportError;
-use un_report_reader::read::{read_report, read_view};
+use un_report_reader::read::{read_numbers, read_report, read_view};
 
 /// Texts, each with its first bad line, or that it is printed again as it stands; `line` has another line of a number, and `many` so many
 /// open leaves and the end behind the text.
@@ -150,6 +150,40 @@ static ROWS: &[u8] =
 |unison 1\nfunction f\nmodel regs all slots 64 nodes 200000\nanswer spent\ntree 200000\n?many 199999:bad 200005|&?many 200000:yes|&?many 200001:bad 200006\
 |unison 2\nfunction f\nmodel regs all slots 256 nodes 200000\nanswer spent\ntree 200000\n?many 199999:bad 200005|&?many 200000:yes|&?many 200001:bad 200006";
 
+/// Texts of the numbers of a solution alone, each with how many they are, or its first bad line: made by another program from the rules.
+static NUMBERS: &[u8] = b"# One list, with its lines broken in every way.\
+|solution 0\n?numbers:good 0\
+|solution 2\n1 2\n?numbers:good 2\
+|solution 16\n0 0 0 0 0 0 0 0 0 0 0 0 0 0 0 0\n?numbers:good 16\
+|solution 17\n0 0 0 0 0 0 0 0 0 0 0 0 0 0 0 0 0\n?numbers:bad 2\
+|solution 16\n0 0 0 0 0 0 0 0\n0 0 0 0 0 0 0 0\n?numbers:bad 2\
+|?numbers:bad 1\
+|solution\n?numbers:bad 1\
+|solution 1\n?numbers:bad 2\
+|solution 0?numbers:bad 1\
+|solution 01\n7\n?numbers:bad 1\
+|solution 1\n-7\n?numbers:bad 2\
+|solution 1\n+7\n?numbers:bad 2\
+|solution 1\n 7\n?numbers:bad 2\
+|solution 2\n1  2\n?numbers:bad 2\
+|solution 2\n1\n2\n?numbers:bad 2\
+|solution 1\n7\n\n?numbers:bad 3\
+|solution 1\n7\n8\n?numbers:bad 3\
+|solution 0\n\n?numbers:bad 2\
+|solution 1\n4294967295\n?numbers:good 1\
+|solution 1\n99999999999999999999999\n?numbers:bad 2\
+|solution 4294967296\n?numbers:bad 1\
+|solution 4294967295\n0 0\n?numbers:bad 2\
+|solution -1\n?numbers:bad 1\
+|solution 1 \n7\n?numbers:bad 1\
+|solution  1\n7\n?numbers:bad 1\
+|solution 1\n7\r\n?numbers:bad 2\
+|solution 1\n7?numbers:bad 2\
+|solution 3\n1 2 3 4\n?numbers:bad 2\
+|solution 1\nx\n?numbers:bad 2\
+|solution 32\n1 1 1 1 1 1 1 1 1 1 1 1 1 1 1 1\n2 2 2 2 2 2 2 2 2 2 2 2 2 2 2 2\n?numbers:good 32\
+|solution 33\n1 1 1 1 1 1 1 1 1 1 1 1 1 1 1 1\n2 2 2 2 2 2 2 2 2 2 2 2 2 2 2 2\n3\n4\n?numbers:bad 5";
+
 /// Appends the answer to an error.
 fn put_error(out: &mut Vec<u8>, error: ReportError) -> Result<(), NoMemory> {
     match error {
@@ -181,6 +215,17 @@ fn put_again(alloc: Global, out: &mut Vec<u8>, text: &[u8]) -> Result<(), NoMemo
 fn put_view(alloc: Global, out: &mut Vec<u8>, text: &[u8]) -> Result<(), NoMemory> {
     match read_view(alloc, text) {
         Ok(view) => put_number(out, u64::from(view.count)),
+        Err(error) => put_error(out, error),
+    }
+}
+
+/// Appends how many numbers a text is, or the first bad line.
+fn put_numbers(alloc: Global, out: &mut Vec<u8>, text: &[u8]) -> Result<(), NoMemory> {
+    match read_numbers(alloc, text) {
+        Ok(solution) => {
+            put_text(out, b"good ")?;
+            put_number(out, solution.values.len() as u64)
+        }
         Err(error) => put_error(out, error),
     }
 }
@@ -242,6 +287,7 @@ pub(crate) fn put_of_report(
 ) -> Result<(), NoMemory> {
     match question.first() {
         Some(b's') => put_again(alloc, out, text),
+        Some(b'n') => put_numbers(alloc, out, text),
         Some(b'f') => put_view(alloc, out, first_lines(text, number_at(question, 1))),
         Some(b'l') => {
             let (_, change) = cut(question, b' ');
@@ -256,5 +302,6 @@ pub(crate) fn put_of_report(
 #[test]
 fn answers_of_reports(rt: HostRuntime) {
     let well = matches!(all_answered(rt.alloc(), About::Reports, ROWS), Ok(true));
-    assert!(rt; well);
+    let numbers = matches!(all_answered(rt.alloc(), About::Reports, NUMBERS), Ok(true));
+    assert!(rt; well && numbers);
 }

@@ -6,6 +6,8 @@ mod broken;
 #[cfg(test)]
 mod carriers;
 #[cfg(test)]
+mod compactions;
+#[cfg(test)]
 mod kinds;
 #[cfg(test)]
 mod merges;

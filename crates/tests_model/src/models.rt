@@ -11,6 +11,7 @@ ghost use Rattle.un_model.specs.Variables.{IsModel};
 
 use crate::broken::BROKEN;
 use crate::carriers::CARRIERS;
+use crate::compactions::COMPACTIONS;
 use crate::merges::MERGES;
 use crate::orders::ORDERS;
 use crate::relaxed::relaxed;
@@ -21,6 +22,7 @@ use un_base::ids::{BlockId, TempId};
 use un_base::memory_error::NoMemory;
 use un_bound::plain::{is_short, plain_bound};
 use un_bound::relax::RelaxAnswer;
+use un_compact::compact::compact;
 use un_ir::text::{put_number, put_text};
 use un_isa::table::hexagon;
 use un_lists::items::Items;
@@ -31,7 +33,7 @@ use un_model::verdict::Broken;
 use un_press::carrier::{carrier, crosses};
 use un_problem::problem::{default_options, model};
 use un_reader::read::read_function;
-use un_violations::violations::violations;
+use un_violations::violations::{loose_violations, violations};
 
 /// The model of the function that a text is.
 fn model_of(alloc: Global, function: &[u8]) -> Result<Model, NoMemory>
@@ -187,6 +189,43 @@ fn put_merged(
     )
 }
 
+/// Appends the clauses that values break as a schedule of any length.
+fn put_loose(alloc: Global, out: &mut Vec<u8>, m: &Model, values: &[u8]) -> Result<(), NoMemory>
+    requires model { IsModel m.now }
+{
+    let values = numbers(alloc, values)?;
+    let found = loose_violations(alloc, m, &Solution { values })?;
+    put_clauses(out, found.as_slice())
+}
+
+/// Appends the places at which two lists differ, each with the number of the second.
+fn put_changes(out: &mut Vec<u8>, old: &[u32], new: &[u32]) -> Result<(), NoMemory> {
+    for k in 0..old.len().min(new.len()) {
+        if old[k] != new[k] {
+            put_text(out, b" ")?;
+            put_number(out, k as u64)?;
+            put_text(out, b"=")?;
+            put_number(out, u64::from(new[k]))?;
+        }
+    }
+    Ok(())
+}
+
+/// Appends what compacting changes of the values of a schedule of any length.
+fn put_compacted(alloc: Global, out: &mut Vec<u8>, m: &Model, values: &[u8]) -> Result<(), NoMemory>
+    requires model { IsModel m.now }
+    requires extended { IsExtended m.now.ext }
+    requires fit { IsFit m.now.ext.table }
+{
+    let values = numbers(alloc, values)?;
+    let s = Solution { values };
+    if !loose_violations(alloc, m, &s)?.is_empty() {
+        return put_text(out, b"no schedule");
+    }
+    let new = compact(alloc, m, &s)?;
+    put_changes(out, s.values.as_slice(), new.values.as_slice())
+}
+
 /// Appends the temporary that carries a value in a cycle of a solution.
 fn put_carrier(
     alloc: Global,
@@ -231,6 +270,8 @@ fn put_answer(
         Some(b'b') => put_bound(out, m),
         Some(b'r') => put_relaxed(alloc, out, m, question),
         Some(b'm') => put_merged(alloc, out, m, values, question),
+        Some(b'l') => put_loose(alloc, out, m, values),
+        Some(b'c') => put_compacted(alloc, out, m, values),
         Some(b'k') => put_carrier(alloc, out, m, values, question),
         _ => put_changed(alloc, out, m, values, question),
     }
@@ -281,5 +322,6 @@ fn answers_of_models(rt: HostRuntime) {
     let orders = matches!(all_answered(rt.alloc(), ORDERS), Ok(true));
     let merges = matches!(all_answered(rt.alloc(), MERGES), Ok(true));
     let carriers = matches!(all_answered(rt.alloc(), CARRIERS), Ok(true));
-    assert!(rt; broken && ways && orders && merges && carriers);
+    let compactions = matches!(all_answered(rt.alloc(), COMPACTIONS), Ok(true));
+    assert!(rt; broken && ways && orders && merges && carriers && compactions);
 }

@@ -13,6 +13,8 @@ mod firsts;
 #[cfg(test)]
 mod hostile;
 #[cfg(test)]
+mod improvements;
+#[cfg(test)]
 mod limits;
 #[cfg(test)]
 mod machines;

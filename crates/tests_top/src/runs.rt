@@ -454,7 +454,85 @@ block e freq 1
   %s = add %s, %v14
   %s = add %s, %v15
   ret %s
-?numbers alloc --nodes 3:done cost 18..186 bound 18..186 frame 72..";
+?numbers alloc --nodes 3:done cost 18..186 bound 18..186 frame 72..\
+|# Seventeen words are loaded before the first is stored. In the cycle of that store sixteen of them, both addresses, twelve saved values
+# and the link are read later, one more than there are registers. So by then there are 19 accesses with a Spill, which fill ten cycles, and
+# sixteen stores come after it.\
+|func l %x %y
+block e freq 1
+  %v0 = load %x, #0
+  %v1 = load %x, #4
+  %v2 = load %x, #8
+  %v3 = load %x, #12
+  %v4 = load %x, #16
+  %v5 = load %x, #20
+  %v6 = load %x, #24
+  %v7 = load %x, #28
+  %v8 = load %x, #32
+  %v9 = load %x, #36
+  %v10 = load %x, #40
+  %v11 = load %x, #44
+  %v12 = load %x, #48
+  %v13 = load %x, #52
+  %v14 = load %x, #56
+  %v15 = load %x, #60
+  %v16 = load %x, #64
+  store %y, #0, %v0
+  store %y, #4, %v1
+  store %y, #8, %v2
+  store %y, #12, %v3
+  store %y, #16, %v4
+  store %y, #20, %v5
+  store %y, #24, %v6
+  store %y, #28, %v7
+  store %y, #32, %v8
+  store %y, #36, %v9
+  store %y, #40, %v10
+  store %y, #44, %v11
+  store %y, #48, %v12
+  store %y, #52, %v13
+  store %y, #56, %v14
+  store %y, #60, %v15
+  store %y, #64, %v16
+  ret %x
+?numbers alloc --nodes 3:done cost 26 bound 26 frame 8..\
+|# With sixteen words there are as many values as registers: 17 accesses fill nine cycles, and fifteen stores come after them.\
+|func m %x %y
+block e freq 1
+  %v0 = load %x, #0
+  %v1 = load %x, #4
+  %v2 = load %x, #8
+  %v3 = load %x, #12
+  %v4 = load %x, #16
+  %v5 = load %x, #20
+  %v6 = load %x, #24
+  %v7 = load %x, #28
+  %v8 = load %x, #32
+  %v9 = load %x, #36
+  %v10 = load %x, #40
+  %v11 = load %x, #44
+  %v12 = load %x, #48
+  %v13 = load %x, #52
+  %v14 = load %x, #56
+  %v15 = load %x, #60
+  store %y, #0, %v0
+  store %y, #4, %v1
+  store %y, #8, %v2
+  store %y, #12, %v3
+  store %y, #16, %v4
+  store %y, #20, %v5
+  store %y, #24, %v6
+  store %y, #28, %v7
+  store %y, #32, %v8
+  store %y, #36, %v9
+  store %y, #40, %v10
+  store %y, #44, %v11
+  store %y, #48, %v12
+  store %y, #52, %v13
+  store %y, #56, %v14
+  store %y, #60, %v15
+  ret %x
+?numbers alloc --nodes 3:done cost 24 bound 24 frame 0..";
 
 /// Adds a word.
 fn add(words: &mut Vec<Word>, word: Word) -> Result<(), AllocError> {

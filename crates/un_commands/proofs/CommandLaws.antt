@@ -12,18 +12,18 @@ use Rattle.un_commands.specs.declared.command.SearchOptions.{SearchOptions}
 use Rattle.un_commands.specs.declared.command.TheConstants.{DEFAULT_NODES}
 use Rattle.un_commands.specs.declared.command.Command.{Command}
 use Rattle.un_commands.specs.declared.command.Command.TheVariants.{Reads, Makes}
-use Rattle.un_commands.specs.declared.command.ReadingCommand.TheVariants.{Alloc, Run, RunCode, Check}
+use Rattle.un_commands.specs.declared.command.ReadingCommand.TheVariants.{Alloc, Run, RunCode, Check, Improve}
 use Rattle.un_commands.specs.declared.command.MakingCommand.TheVariants.{Generate, GenerateAlloc}
 use Rattle.un_commands.specs.declared.setting.Setting.{Setting}
 use Rattle.un_commands.specs.declared.setting.Setting.TheVariants.{Nodes, Regs, Slots}
 use Rattle.un_commands.specs.declared.setting.Given.{Given}
-use Rattle.un_commands.specs.Alloc.{IsAlloc, AreSearchOptions}
+use Rattle.un_commands.specs.Alloc.{HasSettings, AreSearchOptions}
 use Rattle.un_commands.specs.Commands.{IsCommand, IsBadWord, IsRanged}
 use Rattle.un_commands.specs.Places.{StandsAt}
 use Rattle.un_commands.specs.Settings.{IsCountOfNodes, IsInRange, words_of, nodes_in, regs_in, slots_in, Say, over_defaults}
 use Rattle.un_commands.proofs.AllocLaws.{line_of}
 use Rattle.un_commands.proofs.GenerateLaws.{plain, costed}
-use Rattle.un_commands.proofs.Openers.{opens_alloc, opens_run, opens_check, opens_gen, read_at, first_words, IsGen, IsTail, ends, goes}
+use Rattle.un_commands.proofs.Openers.{opens_alloc, opens_run, opens_check, opens_improve, opens_gen, read_at, first_words, IsGen, IsTail, ends, goes}
 use Rattle.un_commands.proofs.SettingLaws.{begin_with, length_words, one_saying, all_values}
 use Rattle.un_commands.proofs.Texts.{some_or_none, one_number}
 use Rattle.un_commands.proofs.WordLaws.{bad_word, command_is_good, bad_word_unique}
@@ -79,6 +79,7 @@ is_ranged words (Reads (Alloc options)) h = subst AreSearchOptions (sym h.chosen
 is_ranged words (Reads Run) h = tt
 is_ranged words (Reads RunCode) h = tt
 is_ranged words (Reads Check) h = tt
+is_ranged words (Reads (Improve options)) h = subst AreSearchOptions (sym h.chosen) (settings_ranged h.settings h.given h.ranged h.said)
 is_ranged words (Makes (Generate seed size)) h = (h.seed_fits, h.size_in)
 is_ranged words (Makes (GenerateAlloc seed size nodes)) h = (h.seed_fits, h.size_in, h.nodes_in)
 
@@ -95,8 +96,8 @@ same_settings ss ts a b e =
     let none : length before.0 ≡ 0 = omega (arith, length-append ss before.0, length_words ss, length_words ts) in
     before.1 ∙ (ap (λ (us : List Setting). ss ++ us) (none_more before.0 none) ∙ append-nil ss)
 
-one_alloc : (words : List (List ℕ)) (o p : SearchOptions) → IsAlloc words o → IsAlloc words p → o ≡ p
-one_alloc words o p a b =
+one_search : (verb : List ℕ) (words : List (List ℕ)) (o p : SearchOptions) → HasSettings verb words o → HasSettings verb words p → o ≡ p
+one_search verb words o p a b =
     let texts : flat_map words_of a.settings ≡ flat_map words_of b.settings = ap (λ (ws : List (List ℕ)). drop 1 ws) (sym a.spelled ∙ b.spelled) in
     let same : b.settings ≡ a.settings = same_settings a.settings b.settings a.ranged b.ranged texts in
     a.chosen ∙ (ap over_defaults (one_saying a.settings a.given b.given a.said (subst (λ (ss : List Setting). Say ss b.given) same b.said)) ∙ sym b.chosen)
@@ -120,7 +121,7 @@ one_run words a b = some_or_none words 1 (codes "--code") (read_at words _ 1 b) 
 -- words are those of one command at most
 pub one_command : (words : List (List ℕ)) (a b : Command) → IsCommand words a → IsCommand words b → a ≡ b
 one_command words (Reads (Alloc options)) b h k = let opened = opens_alloc words b k (read_at words _ 0 h.spelled) in
-    ap (λ (o : SearchOptions). Reads (Alloc o)) (one_alloc words options opened.0 h opened.2) ∙ sym opened.1
+    ap (λ (o : SearchOptions). Reads (Alloc o)) (one_search (codes "alloc") words options opened.0 h opened.2) ∙ sym opened.1
 one_command words (Reads Run) b h k = elim (opens_run words b k (read_at words _ 0 h)) [
   | inl plain_run ↦ sym plain_run.0
   | inr with_code ↦ absurd (one_run words h with_code.1)
@@ -130,6 +131,8 @@ one_command words (Reads RunCode) b h k = elim (opens_run words b k (read_at wor
   | inr with_code ↦ sym with_code.0
 ]
 one_command words (Reads Check) b h k = sym (opens_check words b k (read_at words _ 0 h)).0
+one_command words (Reads (Improve options)) b h k = let opened = opens_improve words b k (read_at words _ 0 h.spelled) in
+    ap (λ (o : SearchOptions). Reads (Improve o)) (one_search (codes "improve") words options opened.0 h opened.2) ∙ sym opened.1
 one_command words (Makes (Generate seed size)) b h k = one_gen words (Makes (Generate seed size)) b
     (opens_gen words (Makes (Generate seed size)) h (read_at words _ 0 h.spelled)) (opens_gen words b k (read_at words _ 0 h.spelled))
 one_command words (Makes (GenerateAlloc seed size nodes)) b h k = one_gen words (Makes (GenerateAlloc seed size nodes)) b
@@ -154,9 +157,9 @@ all_said : (n : ℕ) (r : Option ℕ) (k : ℕ) → Say (all_settings n r k) (al
 all_said n None k = record { nodes = refl; regs = refl; slots = refl }
 all_said n (Some r) k = record { nodes = refl; regs = refl; slots = refl }
 
-can_be_asked : (options : SearchOptions) → AreSearchOptions options
-    → IsAlloc (line_of (all_settings options.nodes options.regs options.slots)) options
-can_be_asked options h = record {
+can_be_asked : (verb : List ℕ) (options : SearchOptions) → AreSearchOptions options
+    → HasSettings verb (line_of verb (all_settings options.nodes options.regs options.slots)) options
+can_be_asked verb options h = record {
   settings = all_settings options.nodes options.regs options.slots;
   given = all_given options.nodes options.regs options.slots;
   spelled = refl;
@@ -167,10 +170,13 @@ can_be_asked options h = record {
 
 -- each command whose numbers are in their ranges has words
 pub words_for : (command : Command) → IsRanged command → (words : List (List ℕ)) × IsCommand words command
-words_for (Reads (Alloc options)) h = (line_of (all_settings options.nodes options.regs options.slots), can_be_asked options h)
+words_for (Reads (Alloc options)) h =
+    (line_of (codes "alloc") (all_settings options.nodes options.regs options.slots), can_be_asked (codes "alloc") options h)
 words_for (Reads Run) h = (codes "run" ∷ [], refl)
 words_for (Reads RunCode) h = (codes "run" ∷ codes "--code" ∷ [], refl)
 words_for (Reads Check) h = (codes "check" ∷ [], refl)
+words_for (Reads (Improve options)) h =
+    (line_of (codes "improve") (all_settings options.nodes options.regs options.slots), can_be_asked (codes "improve") options h)
 words_for (Makes (Generate seed size)) h = (codes "gen" ∷ decimal seed ∷ decimal size ∷ [], plain seed size h.0 h.1)
 words_for (Makes (GenerateAlloc seed size nodes)) h = (
   codes "gen" ∷ decimal seed ∷ decimal size ∷ codes "--nodes" ∷ decimal nodes ∷ [],
@@ -179,13 +185,14 @@ words_for (Makes (GenerateAlloc seed size nodes)) h = (
 
 -- no command begins with another first word
 pub bad_first : (words : List (List ℕ)) → ¬ StandsAt words 0 (codes "alloc") → ¬ StandsAt words 0 (codes "run")
-    → ¬ StandsAt words 0 (codes "check") → ¬ StandsAt words 0 (codes "gen") → IsBadWord words 0
-bad_first words alloc run check gen = bad_word words 0 (Reads Run) (codes "run" ∷ []) refl refl
+    → ¬ StandsAt words 0 (codes "check") → ¬ StandsAt words 0 (codes "gen") → ¬ StandsAt words 0 (codes "improve") → IsBadWord words 0
+bad_first words alloc run check gen improve = bad_word words 0 (Reads Run) (codes "run" ∷ []) refl refl
     (λ other others is alike. elim (first_words others other is) [
       | inl e ↦ alloc (alike 0 (omega arith) ∙ e)
       | inr (inl e) ↦ run (alike 0 (omega arith) ∙ e)
       | inr (inr (inl e)) ↦ check (alike 0 (omega arith) ∙ e)
-      | inr (inr (inr e)) ↦ gen (alike 0 (omega arith) ∙ e)
+      | inr (inr (inr (inl e))) ↦ gen (alike 0 (omega arith) ∙ e)
+      | inr (inr (inr (inr e))) ↦ improve (alike 0 (omega arith) ∙ e)
     ])
 
 -- an answer that is a command of the words, or the place of their first bad one

@@ -4,13 +4,13 @@ use Rattle.std.specs.Fmt.{decimal}
 use Rattle.std.proofs.lemmas.Bool.{eqb-false}
 use Rattle.std.proofs.lemmas.Fmt.{decimal_digit, decimal_step, decimal_injective}
 use Rattle.un_commands.specs.declared.command.Command.TheVariants.{Reads}
-use Rattle.un_commands.specs.declared.command.ReadingCommand.TheVariants.{Alloc, RunCode, Check}
+use Rattle.un_commands.specs.declared.command.ReadingCommand.TheVariants.{Alloc, RunCode, Check, Improve}
 use Rattle.un_commands.specs.declared.setting.Setting.{Setting}
 use Rattle.un_commands.specs.declared.setting.Setting.TheVariants.{Nodes, Regs, Slots}
 use Rattle.un_commands.specs.Commands.{IsCommand, IsBadWord}
 use Rattle.un_commands.specs.Places.{StandsAt, IsFresh}
 use Rattle.un_commands.specs.Settings.{IsInRange, flag_of, number_of, none_given, with_setting}
-use Rattle.un_commands.proofs.AllocLaws.{so_far_none, so_far_more, is_alloc, bad_flag, bad_value}
+use Rattle.un_commands.proofs.AllocLaws.{so_far_none, so_far_more, has_settings, bad_flag, bad_value}
 use Rattle.un_commands.proofs.CommandLaws.{bad_first}
 use Rattle.un_commands.proofs.GenerateLaws.{bad_size, bad_nodes}
 use Rattle.un_commands.proofs.Openers.{opens_run, opens_check, read_at}
@@ -31,14 +31,14 @@ other_number word m n is small_m small_n e = let same : decimal m ≡ decimal n 
 
 -- no words at all
 nothing : IsBadWord [] 0
-nothing = bad_first [] (λ e. no _ e) (λ e. no _ e) (λ e. no _ e) (λ e. no _ e)
+nothing = bad_first [] (λ e. no _ e) (λ e. no _ e) (λ e. no _ e) (λ e. no _ e) (λ e. no _ e)
   where
     no : (w : List ℕ) → None ≡ Some w → ⊥
     no w e = cc
 
 -- `alloc x`
 no_option : IsBadWord (codes "alloc" ∷ codes "x" ∷ []) 1
-no_option = bad_flag (codes "alloc" ∷ codes "x" ∷ []) 1 none_given (codes "x") refl (so_far_none (codes "alloc" ∷ codes "x" ∷ []) refl) refl by
+no_option = bad_flag (codes "alloc") (inl refl) (codes "alloc" ∷ codes "x" ∷ []) 1 none_given (codes "x") refl (so_far_none (codes "alloc") (codes "alloc" ∷ codes "x" ∷ []) refl) refl by
   where
     third : (v w : List ℕ) → Some v ≡ Some w → get_or v 2 0 ≡ get_or w 2 0
     third v w e = let same : v ≡ w = cc in ap (λ (x : List ℕ). get_or x 2 0) same
@@ -50,8 +50,8 @@ no_option = bad_flag (codes "alloc" ∷ codes "x" ∷ []) 1 none_given (codes "x
 
 -- `alloc --nodes 0`
 no_nodes : IsBadWord (codes "alloc" ∷ codes "--nodes" ∷ codes "0" ∷ []) 2
-no_nodes = bad_value (codes "alloc" ∷ codes "--nodes" ∷ codes "0" ∷ []) 1 none_given refl
-    (so_far_none (codes "alloc" ∷ codes "--nodes" ∷ codes "0" ∷ []) refl)
+no_nodes = bad_value (codes "alloc") (inl refl) (codes "alloc" ∷ codes "--nodes" ∷ codes "0" ∷ []) 1 none_given refl
+    (so_far_none (codes "alloc") (codes "alloc" ∷ codes "--nodes" ∷ codes "0" ∷ []) refl)
     (record { some = Nodes 1; fresh = refl; ranged = (lit≤ tt, lit≤ tt); flag = refl; none = by })
   where
     by : (s : Setting) → flag_of s ≡ codes "--nodes" → IsInRange s
@@ -62,7 +62,7 @@ no_nodes = bad_value (codes "alloc" ∷ codes "--nodes" ∷ codes "0" ∷ []) 1 
 
 -- `alloc --regs`
 no_registers : IsBadWord (codes "alloc" ∷ codes "--regs" ∷ []) 2
-no_registers = bad_value (codes "alloc" ∷ codes "--regs" ∷ []) 1 none_given refl (so_far_none (codes "alloc" ∷ codes "--regs" ∷ []) refl)
+no_registers = bad_value (codes "alloc") (inl refl) (codes "alloc" ∷ codes "--regs" ∷ []) 1 none_given refl (so_far_none (codes "alloc") (codes "alloc" ∷ codes "--regs" ∷ []) refl)
     (record { some = Regs 1; fresh = refl; ranged = (lit≤ tt, lit≤ tt); flag = refl; none = λ s flag ranged e. no _ e })
   where
     no : (w : List ℕ) → None ≡ Some w → ⊥
@@ -73,8 +73,8 @@ abbrev twice : List (List ℕ)
 twice = codes "alloc" ∷ codes "--slots" ∷ codes "1" ∷ codes "--slots" ∷ codes "1" ∷ []
 
 slots_twice : IsBadWord twice 3
-slots_twice = bad_flag twice 3 (with_setting none_given (Slots 1)) (codes "--slots") refl
-    (so_far_more twice 1 none_given (Slots 1) (so_far_none twice refl)
+slots_twice = bad_flag (codes "alloc") (inl refl) twice 3 (with_setting none_given (Slots 1)) (codes "--slots") refl
+    (so_far_more (codes "alloc") twice 1 none_given (Slots 1) (so_far_none (codes "alloc") twice refl)
     (record { fresh = refl; flag = refl; number = ap Some (digit 1 (lit< tt)); ranged = lit≤ tt })) refl by
   where
     third : (v w : List ℕ) → Some v ≡ Some w → get_or v 2 0 ≡ get_or w 2 0
@@ -93,15 +93,24 @@ abbrev both : List (List ℕ)
 both = codes "alloc" ∷ codes "--slots" ∷ codes "3" ∷ codes "--nodes" ∷ codes "5" ∷ []
 
 slots_and_nodes : IsCommand both (Reads (Alloc (record { nodes = 5; regs = None; slots = 3 })))
-slots_and_nodes = is_alloc both 5 _
-    (so_far_more both 3 (with_setting none_given (Slots 3)) (Nodes 5)
-    (so_far_more both 1 none_given (Slots 3) (so_far_none both refl)
+slots_and_nodes = has_settings (codes "alloc") both 5 _
+    (so_far_more (codes "alloc") both 3 (with_setting none_given (Slots 3)) (Nodes 5)
+    (so_far_more (codes "alloc") both 1 none_given (Slots 3) (so_far_none (codes "alloc") both refl)
     (record { fresh = refl; flag = refl; number = ap Some (digit 3 (lit< tt)); ranged = lit≤ tt }))
     (record { fresh = refl; flag = refl; number = ap Some (digit 5 (lit< tt)); ranged = (lit≤ tt, lit≤ tt) })) refl
 
 -- `alloc` alone
 alone : IsCommand (codes "alloc" ∷ []) (Reads (Alloc (record { nodes = 2000; regs = None; slots = 256 })))
-alone = is_alloc (codes "alloc" ∷ []) 1 none_given (so_far_none (codes "alloc" ∷ []) refl) refl
+alone = has_settings (codes "alloc") (codes "alloc" ∷ []) 1 none_given (so_far_none (codes "alloc") (codes "alloc" ∷ []) refl) refl
+
+-- `improve --regs 5`
+abbrev improving : List (List ℕ)
+improving = codes "improve" ∷ codes "--regs" ∷ codes "5" ∷ []
+
+improve_with_registers : IsCommand improving (Reads (Improve (record { nodes = 2000; regs = Some 5; slots = 256 })))
+improve_with_registers = has_settings (codes "improve") improving 3 _
+    (so_far_more (codes "improve") improving 1 none_given (Regs 5) (so_far_none (codes "improve") improving refl)
+    (record { fresh = refl; flag = refl; number = ap Some (digit 5 (lit< tt)); ranged = (lit≤ tt, lit≤ tt) })) refl
 
 -- `gen 7`
 no_size : IsBadWord (codes "gen" ∷ codes "7" ∷ []) 2

@@ -2,9 +2,9 @@
 use Rattle.std.specs.Prelude.{ℕ, ◌≡◌, ◌+◌, ◌<◌, ◌^◌, List, [], ◌∷◌, codes, take}
 use Rattle.un_commands.specs.declared.command.Command.{Command}
 use Rattle.un_commands.specs.declared.command.Command.TheVariants.{Reads, Makes}
-use Rattle.un_commands.specs.declared.command.ReadingCommand.TheVariants.{Alloc, Run, RunCode, Check}
+use Rattle.un_commands.specs.declared.command.ReadingCommand.TheVariants.{Alloc, Run, RunCode, Check, Improve}
 use Rattle.un_commands.specs.declared.command.MakingCommand.TheVariants.{Generate, GenerateAlloc}
-use Rattle.un_commands.specs.Alloc.{IsAlloc, AreSearchOptions}
+use Rattle.un_commands.specs.Alloc.{IsAlloc, IsImprove, AreSearchOptions}
 use Rattle.un_commands.specs.Generate.{IsSize, IsGenerate, IsGenerateAlloc}
 use Rattle.un_commands.specs.Settings.{IsCountOfNodes}
 
@@ -14,6 +14,7 @@ IsCommand words (Reads (Alloc options)) = IsAlloc words options
 IsCommand words (Reads Run) = words ≡ codes "run" ∷ []
 IsCommand words (Reads RunCode) = words ≡ codes "run" ∷ codes "--code" ∷ []
 IsCommand words (Reads Check) = words ≡ codes "check" ∷ []
+IsCommand words (Reads (Improve options)) = IsImprove words options
 IsCommand words (Makes (Generate seed size)) = IsGenerate words seed size
 IsCommand words (Makes (GenerateAlloc seed size nodes)) = IsGenerateAlloc words seed size nodes
 
@@ -36,5 +37,6 @@ IsRanged (Reads (Alloc options)) = AreSearchOptions options
 IsRanged (Reads Run) = Unit {0}
 IsRanged (Reads RunCode) = Unit {0}
 IsRanged (Reads Check) = Unit {0}
+IsRanged (Reads (Improve options)) = AreSearchOptions options
 IsRanged (Makes (Generate seed size)) = (seed < 2 ^ 64) × IsSize size
 IsRanged (Makes (GenerateAlloc seed size nodes)) = (seed < 2 ^ 64) × IsSize size × IsCountOfNodes nodes

@@ -48,6 +48,8 @@ pub enum ReadingCommand {
     RunCode,
     /// Whether the report of a function is accepted.
     Check,
+    /// The report of a function, by a search from a schedule of it on.
+    Improve(SearchOptions),
 }
 
 /// What it may ask for without one.

@@ -3,7 +3,7 @@
 ghost use Rattle.std.specs.Prelude.{◌≡◌, ℕ, Err, IfOk};
 ghost use Rattle.un_commands.specs.Commands.{IsCommand, IsBadWord, IsRanged};
 
-use crate::alloc::read_alloc;
+use crate::alloc::{read_alloc, read_improve};
 use crate::check::read_check;
 use crate::command::Command;
 use crate::generate::read_generate;
@@ -32,6 +32,8 @@ pub fn read_command(words: &[Word]) -> Result<Command, u32>
         read_check(words)
     } else if first.is(b"gen") {
         read_generate(words)
+    } else if first.is(b"improve") {
+        read_improve(words)
     } else {
         Err(0)
     }

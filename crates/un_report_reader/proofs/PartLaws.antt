@@ -1,5 +1,5 @@
 -- Parts of a report that are read, one after another.
-use Rattle.std.proofs.Common.{◌≡◌, ◌≢◌, ℕ, ◌+◌, ◌≤◌, inl, List, ◌∷◌, ◌++◌, Option, IfSome, IfOk, IfErr, Result, Ok, Err, codes, decimal, length}
+use Rattle.std.proofs.Common.{◌≡◌, ◌≢◌, ℕ, ◌+◌, ◌≤◌, inl, inr, List, ◌∷◌, ◌++◌, Option, IfSome, IfOk, IfErr, Result, Ok, Err, codes, decimal, length}
 use Rattle.std.proofs.Common.{◌-◌, take, length-append, refl, sym, ap, ◌∙◌, subst, arith, append_assoc}
 use Rattle.un_model.specs.declared.model.Options.{Options}
 use Rattle.un_packet.specs.declared.code.Code.{Code as CodeValue}
@@ -25,8 +25,8 @@ use Rattle.un_listing_reader.specs.declared.read.ListingError.TheVariants as Lis
 use Rattle.un_report_reader.specs.Answers.{IsBehindLines, IsErrorFrom}
 use Rattle.un_report_reader.specs.Errors.{IsErrorAt, IsRead}
 use Rattle.un_report_reader.proofs.Through.{weaker, named, past_line}
-use Rattle.un_report_reader.specs.FirstBad.{InVersion, InAnswer, InCost, BehindKind, InNodes, IsBadNode, InCode, IsBadCode, lines_in_code, InListing, InNumbers}
-use Rattle.un_report_reader.specs.FirstBad.{IsBadNumber, numbers_lines}
+use Rattle.un_report_reader.specs.FirstBad.{InVersion, InAnswer, InCost, BehindKind, InNodes, IsBadNode, InCode, IsBadCode, lines_in_code, InListing, InSolution}
+use Rattle.un_report_reader.specs.FirstBad.{IsBadSolution, numbers_lines}
 use Rattle.un_report_reader.specs.Trees.{AreNodeLines, IsNodesRead, IsTreeRead}
 use Rattle.un_report_reader.specs.declared.limits.Limits.{Limits}
 use Rattle.un_report_reader.specs.declared.tree.Lines.{Lines}
@@ -181,8 +181,21 @@ listing_read l at count second c next h r =
 
 -- ---- the solution
 
-pub own_numbers : (l : Limits) (count : ℕ) (at : Place) (e : ReportError) → IsErrorAt (IsBadNumber count) at e → IsErrorAt (InNumbers l count) at e
-own_numbers l count at e h = weaker (IsBadNumber count) (InNumbers l count) at e (λ line b. inl b) h
+-- a bad line of the solution is one, whatever is to follow the numbers
+pub own_solution : (l : Limits) (at : Place) (e : ReportError) → IsErrorAt IsBadSolution at e → IsErrorAt (InSolution l) at e
+own_solution l at e h = weaker IsBadSolution (InSolution l) at e (λ line b. by line b) h
+  where
+    by : (line : ℕ) → IsBadSolution at.rest.now line → InSolution l at.rest.now line
+    by line (inl b) = inl b
+    by line (inr b) = inr (record {
+      value = b.value;
+      rest = b.rest;
+      behind = b.behind;
+      is_good = b.is_good;
+      whole = b.whole;
+      is_bad = inl b.is_bad;
+      numbered = b.numbered;
+    })
 
 pub solution_read : (at : Place) (count : ℕ) (second : Place) (xs : List ℕ) (next : Place)
     → IsRead IsShort solution_head one at count second → IsRead (AreNumbers count) numbers_text numbers_lines second xs next

@@ -40,7 +40,7 @@ use Rattle.un_tree.specs.declared.node.Node.{Node}
 long_once : (word : List ℕ) → Once IsLong (number_text word)
 long_once word = number_line_once word 0 (2 ^ 64 - 1) (omega arith)
 
-short_once : (word : List ℕ) → Once IsShort (number_text word)
+pub short_once : (word : List ℕ) → Once IsShort (number_text word)
 short_once word = number_line_once word 0 (2 ^ 32 - 1) (omega arith)
 
 count_once : (l : Limits) → AreSmall l → Once (AreFewLines l) tree_head
@@ -52,7 +52,7 @@ version_once = number_line_once (codes "unison ") 1 LAST (omega arith)
 code_once : (l : Limits) (count : ℕ) → Once (HasLines l count) code_text
 code_once l count v w a b gv gw e = codes_once v w a b (gv.0 ∙ sym gw.0) e
 
-solution_once : (count : ℕ) → Once (AreNumbers count) numbers_text
+pub solution_once : (count : ℕ) → Once (AreNumbers count) numbers_text
 solution_once count v w a b gv gw e =
     let one_way = gv.0 in
     let other = gw.0 in
@@ -162,7 +162,7 @@ listing_once l c d a b gc gd e =
     (sym (listing_seam c a) ∙ (e ∙ listing_seam d b)) in
     codes_once c d a b heads.0 heads.1
 
-values_once : Once AreValues solution_text
+pub values_once : Once AreValues solution_text
 values_once xs ys a b gv gw e =
     let heads = short_once (codes "solution ") (length xs) (length ys) (numbers_text xs ++ a) (numbers_text ys ++ b) gv.0 gw.0
     (sym (solution_seam xs a) ∙ (e ∙ solution_seam ys b)) in

@@ -98,6 +98,18 @@ InNumbers l count text line =
 abbrev pub InSolution : Limits → List ℕ → ℕ → Type 0
 InSolution l = InLine IsShort solution_head (InNumbers l)
 
+-- a line of the solution itself
+abbrev pub IsBadSolution : List ℕ → ℕ → Type 0
+IsBadSolution = InLine IsShort solution_head IsBadNumber
+
+-- of a text that is to be the solution alone: nothing follows its numbers
+abbrev pub InLastNumbers : ℕ → List ℕ → ℕ → Type 0
+InLastNumbers count text line =
+    IsBadNumber count text line ⊎ IsBadBehind (AreNumbers count) numbers_text numbers_lines (λ xs. InNothing) text line
+
+abbrev pub IsFirstBadAlone : List ℕ → ℕ → Type 0
+IsFirstBadAlone text line = InLine IsShort solution_head InLastNumbers text line
+
 -- ---- the listing
 
 abbrev pub first_lines : ℕ → List ℕ → List ℕ

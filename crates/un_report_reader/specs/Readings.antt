@@ -2,12 +2,13 @@
 use Rattle.std.specs.Prelude.{ℕ, ◌≡◌, ⊤, List, Result, Ok, Err, All, length}
 use Rattle.un_commands.specs.Settings.{IsCountOfNodes}
 use Rattle.un_isa.specs.Versions.{IsVersion}
-use Rattle.un_report.specs.Reports.{report_text}
+use Rattle.un_model.specs.declared.model.Solution.{Solution}
+use Rattle.un_report.specs.Reports.{report_text, solution_text}
 use Rattle.un_report.specs.Views.{IsViewOf, view_text}
 use Rattle.un_report.specs.declared.report.Report.{Report}
 use Rattle.un_report.specs.declared.view.ReportView.{ReportView}
-use Rattle.un_report_reader.specs.Answers.{IsAnswer}
-use Rattle.un_report_reader.specs.FirstBad.{IsFirstBad}
+use Rattle.un_report_reader.specs.Answers.{IsAnswer, AreValues}
+use Rattle.un_report_reader.specs.FirstBad.{IsFirstBad, IsFirstBadAlone}
 use Rattle.un_report_reader.specs.Limits.{limits_of, AreWithin, AreFewLines}
 use Rattle.un_report_reader.specs.Lines.{IsName}
 use Rattle.un_report_reader.specs.Trees.{AreNodeLines}
@@ -69,3 +70,20 @@ pub record AreSame (r s : Report) : Type 0 where
 abbrev pub IsReportBack : Report → Result Report ReportError → Type 0
 IsReportBack r (Ok s) = AreSame r s
 IsReportBack r (Err e) = e ≡ NoMemory
+
+-- ---- the numbers of a solution alone
+
+-- the text is these numbers as a report has them, behind the line of how many they are, and nothing else
+pub record IsNumbers (text values : List ℕ) : Type 0 where
+  pub are_values : AreValues values
+  pub spelled : text ≡ solution_text values
+
+-- an error is an answer to such a text: there was no memory, or the line is the first bad one
+abbrev pub IsNumbersError : List ℕ → ReportError → Type 0
+IsNumbersError text NoMemory = ⊤
+IsNumbersError text (BadReport line) = IsFirstBadAlone text line
+
+-- an answer to the text of numbers has them, or there was no memory
+abbrev pub AreNumbersBack : List ℕ → Result Solution ReportError → Type 0
+AreNumbersBack values (Ok s) = s.values ≡ values
+AreNumbersBack values (Err e) = e ≡ NoMemory

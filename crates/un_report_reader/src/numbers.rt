@@ -4,8 +4,7 @@ ghost use Rattle.std.specs.Prelude.{◌≡◌, ◌≢◌, ℕ, ◌<◌, List, []
 ghost use Rattle.un_report.specs.Reports.{after_number, numbers_text};
 ghost use Rattle.un_report_reader.specs.Answers.{IsSolutionRead};
 ghost use Rattle.un_report_reader.specs.Errors.{IsErrorAt, IsRead};
-ghost use Rattle.un_report_reader.specs.FirstBad.{IsBadNumber, InSolution, numbers_lines};
-ghost use Rattle.un_report_reader.specs.declared.limits.Limits.{Limits};
+ghost use Rattle.un_report_reader.specs.FirstBad.{IsBadNumber, IsBadSolution, numbers_lines};
 ghost use Rattle.un_report_reader.specs.Lines.{AreNumbers, line_count};
 
 use crate::cut::number;
@@ -73,7 +72,7 @@ pub(crate) fn solution<'a>(
     at: Place<'a>,
 ) -> Result<(Solution, Place<'a>), ReportError>
     ensures ok { IfOk result (λ p. IsSolutionRead at.entry p.0.values p.1) }
-    ensures bad { (l : Limits) → IfErr result (IsErrorAt (InSolution l) at.entry) }
+    ensures bad { IfErr result (IsErrorAt IsBadSolution at.entry) }
 {
     let (count, at) = number_line(at, b"solution ", 0, u32::MAX as u64)?;
     let (values, at) = numbers(alloc, at, count as u32)?;

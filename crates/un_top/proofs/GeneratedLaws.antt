@@ -14,20 +14,18 @@ use Rattle.un_model.specs.declared.model.Model.{Model}
 use Rattle.un_model.specs.declared.model.Options.{Options}
 use Rattle.un_problem.specs.Problems.{IsExtOf, IsModelOf, default_options}
 use Rattle.un_problem.proofs.ProblemLaws.{table_is}
-use Rattle.un_baseline.specs.RoomyOptions.{AreRoomyFor}
+use Rattle.un_baseline.specs.SpilledCost.{spill_cost}
 use Rattle.un_baseline.proofs.Spillable.{default_roomy}
-use Rattle.un_tree.specs.declared.node.Node.{Node}
 use Rattle.un_report.specs.declared.report.Answered.{Answered}
 use Rattle.un_report.specs.declared.report.Answered.TheVariants.{Code, Infeasible, Spent}
-use Rattle.un_top.specs.Reports.{IsGoodAnswer, status_of}
+use Rattle.un_top.specs.Reports.{IsCodeWithin, UsesRoom, status_of}
 use Rattle.un_top.specs.Generated.{IsSummedUp, IsGeneratedReport}
 
--- with room for each name in a frame slot of its own there is code
-pub code_there : (f : Function) (m : Model) (live : List (List NameId)) (nodes : ℕ) (t : List Node) (a : Answered) → AreRoomyFor f m.options
-    → IsGoodAnswer f m live nodes t a → status_of a ≡ Done
-code_there f m live nodes t (Code cost bound code s) roomy good = refl
-code_there f m live nodes t Infeasible roomy good = absurd (good.0 roomy)
-code_there f m live nodes t Spent roomy good = absurd (good roomy)
+-- a run that writes code ends well
+pub code_done : (most : ℕ) (a : Answered) → IsCodeWithin most a → status_of a ≡ Done
+code_done most (Code cost bound code s) within = refl
+code_done most Infeasible within = absurd within
+code_done most Spent within = absurd within
 
 pub generated_is : (table : Table) (o : Options) (f : Function) (m : Model) (seed size nodes : ℕ) (status : Status) (out : List ℕ)
     → table ≡ table_of LAST → o ≡ default_options → IsGenerated seed size f → IsModelOf table f o m
@@ -46,6 +44,5 @@ generated_is table o f m seed size nodes status out same chosen made g found =
       model = m;
       is_model = h;
       summed = summed;
-      done = summed.ends ∙ code_there f m h.ext.live nodes summed.report.tree.nodes.items summed.report.answer
-          (default_roomy f m.options options) summed.found.answer;
+      done = summed.ends ∙ code_done (spill_cost m.ext.table f h.ext.live) summed.report.answer (summed.room (default_roomy f m.options options));
     }

@@ -4,16 +4,19 @@ use Rattle.std.proofs.Common.{ℕ, ◌≡◌, ◌<◌, ◌≤◌, inl, inr, List
 use Rattle.std.specs.declared.result.Result.{Result}
 use Rattle.std.specs.declared.result.Result.TheVariants.{Ok, Err}
 use Rattle.un_baseline.specs.RoomyOptions.{AreRoomyFor}
+use Rattle.un_baseline.specs.SpilledCost.{spill_cost}
 use Rattle.un_commands.specs.Alloc.{model_options}
 use Rattle.un_commands.specs.declared.command.ReadingCommand.{ReadingCommand}
-use Rattle.un_commands.specs.declared.command.ReadingCommand.TheVariants.{Alloc, Run, RunCode, Check}
+use Rattle.un_commands.specs.declared.command.ReadingCommand.TheVariants.{Alloc, Run, RunCode, Check, Improve}
 use Rattle.un_commands.specs.declared.command.SearchOptions.{SearchOptions}
 use Rattle.un_faults.specs.declared.fault.Fault.TheVariants.{TooMany}
 use Rattle.un_ir.specs.declared.function.Function.{Function}
 use Rattle.un_isa.specs.Versions.{table_of}
 use Rattle.un_isa.specs.declared.table.TheConstants.{LAST}
+use Rattle.un_model.specs.Cost.{cost_of}
 use Rattle.un_model.specs.declared.model.Model.{Model}
 use Rattle.un_model.specs.declared.model.Options.{Options}
+use Rattle.un_model.specs.declared.model.Solution.{Solution}
 use Rattle.un_outside.specs.declared.status.NoCause.{NoCause}
 use Rattle.un_outside.specs.declared.status.Status.{Status}
 use Rattle.un_outside.specs.declared.status.Status.TheVariants.{Done, Infeasible, Spent, TextFault, Usage, ReadFault, WriteFault, NoMemory, No}
@@ -21,18 +24,20 @@ use Rattle.un_outside.specs.declared.status.Status.TheVariants.{BadReport}
 use Rattle.un_reader.specs.Read.{IsRead, too_long}
 use Rattle.un_report.specs.declared.report.Answered.{Answered}
 use Rattle.un_report.specs.declared.report.Answered.TheVariants.{Code, Infeasible as NoSolution, Spent as Stopped}
+use Rattle.un_report_reader.proofs.Alone.{numbers_not_bad}
 use Rattle.un_runs.proofs.OneAnswer.{one_source_line, one_code_line, good_source, good_code, source_run_good, code_run_good}
 use Rattle.un_runs.specs.Inputs.{first_part, second_part}
 use Rattle.un_runs.specs.Refusals.{IsBadSourceRun, IsBadCodeRun}
-use Rattle.un_top.specs.Behaviours.{Behaviour, behaviour_of, of_alloc, of_run, of_run_code, of_check, IsBadPart, IsPartFault, IsDone, IsSearched}
-use Rattle.un_top.specs.Behaviours.{IsChecked, EndsSearch, EndsCheck}
+use Rattle.un_top.specs.Behaviours.{Behaviour, behaviour_of, of_alloc, of_run, of_run_code, of_check, of_improve, IsBadPart, IsPartFault, IsDone, IsSearched}
+use Rattle.un_top.specs.Behaviours.{IsChecked, EndsSearch, EndsCheck, EndsImprove}
 use Rattle.un_top.specs.Checks.{IsBadCheck, told_status}
+use Rattle.un_top.specs.Improvements.{IsAnswerTo, IsBadNumbers}
 use Rattle.un_top.specs.Reports.{IsReportOf, status_of}
 use Rattle.un_top.specs.Runs.{IsLate}
 use Rattle.un_top.specs.declared.limits.TheConstants.{INPUT}
 use Rattle.un_top.proofs.FaultLaws.{fault_unique, read_has_no_fault}
-use Rattle.un_top.proofs.GeneratedLaws.{code_there}
-use Rattle.un_top.proofs.ReportLines.{one_report_line, report_not_bad}
+use Rattle.un_top.proofs.GeneratedLaws.{code_done}
+use Rattle.un_top.proofs.ReportLines.{one_report_line, report_not_bad, one_numbers_line}
 
 pub record IsLawful (b : Behaviour) : Type 0 where
   pub too_long : (text : List ℕ) → b.most < length text → b.Fault text 0 13
@@ -106,9 +111,8 @@ roomy_done o nodes text status out h roomy =
     let f = h.function in
     let m = h.model in
     let options : m.options ≡ o = ap (λ (x : Model). x.options) h.is_model.is_model in
-    let r = h.found.report in
     let room : AreRoomyFor f m.options = subst (λ (p : Options). AreRoomyFor f p) (sym options) (roomy f h.read) in
-    subst IsDone (sym (h.found.ends ∙ code_there f m h.is_model.ext.live nodes r.tree.nodes.items r.answer room h.found.is_search.answer)) tt
+    subst IsDone (sym (h.found.ends ∙ code_done (spill_cost m.ext.table f h.is_model.ext.live) h.found.report.answer (h.found.is_so room))) tt
 
 alloc_lawful : (o : SearchOptions) → IsLawful (of_alloc o)
 alloc_lawful o = record {
@@ -205,6 +209,38 @@ check_lawful = record {
   short = λ text. tt;
 }
 
+-- ---- the report of a function, from numbers on
+
+improve_ends : (f : Function) (m : Model) (nodes : ℕ) (s : Solution) (status : Status) (out : List ℕ) → IsAnswerTo f m nodes s status out
+    → EndsImprove status
+improve_ends f m nodes s status out (inl told) = inr (told.clause, told.ends)
+improve_ends f m nodes s status out (inr h) = inl (h.found.ends ∙ code_done (cost_of m s) h.found.report.answer h.found.is_so)
+
+ends_improved : (status : Status) → EndsImprove status → IsChecked status
+ends_improved status (inl e) = subst IsChecked (sym e) tt
+ends_improved status (inr refused) = subst IsChecked (sym refused.1) tt
+
+improve_lawful : (o : SearchOptions) → IsLawful (of_improve o)
+improve_lawful o = record {
+  too_long = λ text long. inl (record { long = long; no_line = refl; too_many = refl });
+  one_fault = part_fault;
+  output_fault = λ text status out line code h. read_part text h.1.function line code h.0 h.1.read;
+  late_fault = λ text status line code late. (let at = bad_line IsBadNumbers text status late in
+      read_part text at.3.function line code at.2 at.3.read);
+  no_fault = λ text line code good. read_part text good.1.0 line code good.0 good.1.1;
+  good_fault = λ text line code good. read_part text good.1.function line code good.0 good.1.read;
+  is_late = part_late IsBadNumbers;
+  one_late = one_part IsBadNumbers (λ text m n a b. one_numbers_line (second_part text) m n a.bad b.bad);
+  output_late = λ text status out late h l. (let at = bad_line IsBadNumbers text late l in
+      let own = h.1.told in numbers_not_bad (second_part text) own.numbers.values at.0 own.read at.3.bad);
+  good_late = λ text late good l. (let at = bad_line IsBadNumbers text late l in
+      numbers_not_bad (second_part text) good.1.values at.0 good.1.numbers at.3.bad);
+  ends = λ text status out h. (let own = h.1.told in improve_ends h.1.function own.model o.nodes own.numbers status out own.answer);
+  well = λ text status out h. (let own = h.1.told in
+      ends_improved status (improve_ends h.1.function own.model o.nodes own.numbers status out own.answer));
+  short = λ text. tt;
+}
+
 -- ---- all commands over an input
 
 pub lawful : (command : ReadingCommand) → IsLawful (behaviour_of command)
@@ -212,3 +248,4 @@ lawful (Alloc o) = alloc_lawful o
 lawful Run = run_lawful
 lawful RunCode = run_code_lawful
 lawful Check = check_lawful
+lawful (Improve o) = improve_lawful o

@@ -5,6 +5,7 @@ pub mod CheckTexts
 pub mod Completed
 pub mod FaultLaws
 pub mod GeneratedLaws
+pub mod ImproveLaws
 pub mod Lawful
 pub mod Parts
 pub mod Refused

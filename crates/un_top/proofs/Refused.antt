@@ -8,11 +8,12 @@ use Rattle.un_reader.specs.Errors.{Tells}
 use Rattle.un_reader.specs.Read.{IsTextFault}
 use Rattle.un_reader.specs.declared.error.ReadError.{ReadError}
 use Rattle.un_reader.specs.declared.error.ReadError.TheVariants as ReadErrors
-use Rattle.un_report_reader.specs.Readings.{IsErrorOf}
+use Rattle.un_report_reader.specs.Readings.{IsErrorOf, IsNumbersError}
 use Rattle.un_report_reader.specs.declared.error.ReportError.{ReportError}
 use Rattle.un_report_reader.specs.declared.error.ReportError.TheVariants as ReportErrors
-use Rattle.un_top.specs.Behaviours.{of_alloc, of_run, of_run_code, of_check}
+use Rattle.un_top.specs.Behaviours.{of_alloc, of_run, of_run_code, of_check, of_improve}
 use Rattle.un_top.specs.Checks.{RefusesReport, RefusesCheck, unread_by, unviewed_by}
+use Rattle.un_top.specs.Improvements.{RefusesNumbers, RefusesImprovement}
 use Rattle.un_top.specs.Runs.{RefusesText, status_by}
 use Rattle.un_top.specs.declared.limits.TheConstants.{INPUT}
 
@@ -23,6 +24,10 @@ unread text (ReadErrors.TextFault line code) told = record { fault = told.0; is 
 pub unviewed : (text : List ℕ) (error : ReportError) → IsErrorOf text error → RefusesReport text (unviewed_by error)
 unviewed text ReportErrors.NoMemory told = tt
 unviewed text (ReportErrors.BadReport line) told = told
+
+pub unnumbered : (text : List ℕ) (error : ReportError) → IsNumbersError text error → RefusesNumbers text (unviewed_by error)
+unnumbered text ReportErrors.NoMemory told = tt
+unnumbered text (ReportErrors.BadReport line) told = told
 
 pub function_refused : (o : SearchOptions) (text : List ℕ) (refused : Refused) → RefusesFunction text refused
     → RefusesText (of_alloc o) text (status_by refused)
@@ -47,3 +52,9 @@ pub check_refused : (text : List ℕ) (refused : Refused) → length text ≤ IN
 check_refused text NoMemory few told = tt
 check_refused text (TextFault line code) few told = inr (few, told)
 check_refused text (BadSecond line) few told = (few, told)
+
+pub improve_refused : (o : SearchOptions) (text : List ℕ) (refused : Refused) → length text ≤ INPUT → RefusesImprovement text refused
+    → RefusesText (of_improve o) text (status_by refused)
+improve_refused o text NoMemory few told = tt
+improve_refused o text (TextFault line code) few told = inr (few, told)
+improve_refused o text (BadSecond line) few told = (few, told)

@@ -1,4 +1,4 @@
--- The first bad line of a report's text is one, and the text of a report has none.
+-- The first bad line of a report's text is one, and the text of a report has none; that of numbers alone is one.
 use Rattle.std.proofs.Common.{◌≡◌, ℕ, ◌+◌, ◌-◌, ◌/◌, ◌<◌, ◌≤◌, ◌^◌, ◌⊎◌, inl, inr, List, [], ◌∷◌, ◌++◌, codes, length, refl, sym, ap, ◌∙◌, subst, arith}
 use Rattle.std.proofs.lemmas.Bool.{cases_lt}
 use Rattle.std.proofs.lemmas.List.Elements.{recursion_from_All}
@@ -11,6 +11,7 @@ use Rattle.un_report.specs.declared.report.Report.{Report}
 use Rattle.un_report.specs.Reports.{numbers_from, numbers_text}
 use Rattle.un_report_reader.specs.FirstBad.{IsBadBehind, InLine, BehindKind, InVersion, InFunction, InModel, InAnswer, InCost, InBound}
 use Rattle.un_report_reader.specs.FirstBad.{InListing, InCode, InSolution, InNumbers, InTree, InNodes, InEnd, InNothing, IsFirstBad}
+use Rattle.un_report_reader.specs.FirstBad.{InLastNumbers, IsFirstBadAlone}
 use Rattle.un_report_reader.specs.FirstBad.{IsBadCode, IsBadNumber, IsBadNode, first_lines, numbers_lines, lines_in_code}
 use Rattle.un_report_reader.specs.Limits.{AreSmall, AreFewLines, limits_of}
 use Rattle.un_report_reader.specs.Lines.{one, version_text, IsName, function_text, AreSettings, settings_text, IsAny, kind_text}
@@ -189,3 +190,15 @@ pub report_not_bad : (text : List ℕ) (r : Report) (line : ℕ) → IsReportRea
 report_not_bad text r line h bad =
     text_is_good text r.version r.name r.options r.nodes r.answer (length r.tree.nodes.items) r.tree.nodes.items line
     (report_parts text r h.is_report h.spelled) (refl, h.is_report.fit) bad
+
+-- ---- the numbers of a solution alone
+
+one_last : (count : ℕ) (text : List ℕ) (m n : ℕ) → InLastNumbers count text m → InLastNumbers count text n → m ≡ n
+one_last count text m n (inl b) (inl c) = one_bad_number count text m n b c
+one_last count text m n (inl b) (inr c) = absurd (no_bad_number count c.value c.rest text m c.is_good c.whole b)
+one_last count text m n (inr b) (inl c) = absurd (no_bad_number count b.value b.rest text n b.is_good b.whole c)
+one_last count text m n (inr b) (inr c) =
+    one_behind (AreNumbers count) numbers_text numbers_lines (λ xs. InNothing) (numbers_told count) (λ v rest m n b c. b.1 ∙ sym c.1) text m n b c
+
+pub one_numbers_line : (text : List ℕ) (m n : ℕ) → IsFirstBadAlone text m → IsFirstBadAlone text n → m ≡ n
+one_numbers_line = one_line IsShort solution_head InLastNumbers (short_once (codes "solution ")) one_last

@@ -2,7 +2,6 @@
 use Rattle.std.proofs.Common.{ℕ, ◌≡◌, ◌≢◌, ◌≤◌, ◌∙◌, List, All, Contains, None, Some, length, sym, subst, arith}
 use Rattle.std.specs.declared.option.Option.{Option}
 use Rattle.std.specs.Option.{IfSome}
-use Rattle.un_base.specs.declared.ids.NameId.{NameId}
 use Rattle.un_outside.specs.declared.status.Status.{Status}
 use Rattle.un_isa.specs.declared.table.Table.{Table}
 use Rattle.un_ir.specs.ExtendOf.{extend_of}
@@ -14,11 +13,11 @@ use Rattle.un_model.specs.declared.model.Solution.{Solution}
 use Rattle.un_model.specs.Cost.{cost_of}
 use Rattle.un_model.specs.Solutions.{IsSolution}
 use Rattle.un_bound.specs.Plain.{IsPlainBound}
-use Rattle.un_problem.specs.Problems.{IsExtOf, IsModelOf}
+use Rattle.un_compact.proofs.Compaction.{no_cheaper}
+use Rattle.un_packet.specs.declared.code.Code.{Code as CodeValue}
+use Rattle.un_problem.specs.Problems.{IsExtOf, IsModelOf, IsProblemOf}
 use Rattle.un_problem.proofs.ProblemLaws.{table_is}
 use Rattle.un_reader.specs.Read.{IsRead}
-use Rattle.un_baseline.specs.RoomyOptions.{AreRoomyFor}
-use Rattle.un_baseline.specs.SpilledCost.{spill_cost}
 use Rattle.un_merges.specs.Merges.{HasNoMerge}
 use Rattle.un_tree.specs.Waits.{IsOdd, visits_of}
 use Rattle.un_tree.specs.declared.node.Node.{Node}
@@ -36,8 +35,8 @@ use Rattle.un_report.specs.declared.report.Report.{Report}
 use Rattle.un_search.specs.Solved.{IsEnded, OnCode, OnInfeasible, OnSpent, OnOther}
 use Rattle.un_search.specs.declared.solve.Answer.{Answer}
 use Rattle.un_search.specs.declared.solve.Answer.TheVariants.{Code as Solved, Infeasible as Refuted, Spent as Stopped}
-use Rattle.un_top.specs.Reports.{IsGoodAnswer, IsSearchOf, IsSearchText, IsReportOf}
-use Rattle.un_top.specs.Searches.{IsStartOf, IsAnswerOf, IsReported}
+use Rattle.un_top.specs.Reports.{IsGoodAnswer, IsCodeWithin, UsesRoom, IsSearchOf, IsSearchText, IsReportOf}
+use Rattle.un_top.specs.Searches.{IsStartOf, IsNoWorse, IsAnswerOf, IsReported}
 
 -- what a search says of its answer
 pub record IsSolved (m : Model) (start : Option Solution) (nodes : ℕ) (a : Answer) : Type 0 where
@@ -54,12 +53,13 @@ pub record IsSolved (m : Model) (start : Option Solution) (nodes : ℕ) (a : Ans
   pub spent : OnSpent (λ t. IsEnded m None nodes t × Contains t Open) a
 
 -- what a report says of its answer and its tree
-record Parts (f : Function) (m : Model) (live : List (List NameId)) (nodes : ℕ) (ans : Answered) (t : List Node) : Type 0 where
+record Parts (f : Function) (m : Model) (start : Option Solution) (nodes : ℕ) (ans : Answered) (t : List Node) : Type 0 where
   pub few : length t ≤ nodes
   pub used : Contains t Open → IsOdd (length t) nodes
   pub sound : IsSoundAnswer m t ans
   pub searched : IsCertificate m (limit_of ans) t
-  pub good : IsGoodAnswer f m live nodes t ans
+  pub good : IsGoodAnswer f m nodes t ans
+  pub no_worse : IsNoWorse m start ans
 
 moved : (P : ℕ → ℕ → Solution → List Node → Type 0) (c cost b bound : ℕ) (x s : Solution) (u t : List Node) → c ≡ cost → b ≡ bound
     → x ≡ s → u ≡ t → P cost bound s t → P c b x u
@@ -72,23 +72,39 @@ plain_within : (m : Model) (c bound : ℕ) (t : List Node) → IsBound m c (visi
     → n ≤ bound
 plain_within m c bound t b n is = let same = plain_one m n b.plain is b.is_plain in let e = b.greatest in omega (arith, same, e)
 
--- without code each name cannot be kept in a frame slot of its own
-no_start : (f : Function) (m : Model) (start : Option Solution) → IsStartOf f m start → start ≡ None → AreRoomyFor f m.options → ⊥
-no_start f m None is e = is
-no_start f m (Some s) is e = λ roomy. absurd (cc e)
+-- from no solution nothing is worse
+from_none : (m : Model) (start : Option Solution) (ans : Answered) → start ≡ None → IsNoWorse m start ans
+from_none m start ans e = subst (λ (o : Option Solution). IsNoWorse m o ans) (sym e) tt
 
--- where each name can, that costs no less
-roomy_cost : (f : Function) (m : Model) (cost : ℕ) (e : IsExtOf m.ext.table f m.ext) (start : Option Solution) → IsStartOf f m start
-    → IfSome start (λ x. cost ≤ cost_of m x) → AreRoomyFor f m.options → cost ≤ spill_cost m.ext.table f e.live
-roomy_cost f m cost e None is h roomy = absurd (is roomy)
-roomy_cost f m cost e (Some s) is h roomy =
-    subst (λ (n : ℕ). cost ≤ n) (is.1 (record { function = f; lists = e.live; live = e.are_live; extended = e.is_extended })) h
+no_dearer : (m : Model) (cost bound : ℕ) (code : CodeValue) (s : Solution) (start : Option Solution)
+    → IfSome start (λ x. cost ≤ cost_of m x) → IsNoWorse m start (Code cost bound code s)
+no_dearer m cost bound code s None h = tt
+no_dearer m cost bound code s (Some x) h = h
 
-module _ (f : Function) (m : Model) (e : IsExtOf m.ext.table f m.ext) (nodes : ℕ) (start : Option Solution) (is : IsStartOf f m start) where
+-- where each name can be kept in a frame slot of its own, an answer that is no worse than that is code that costs no more
+pub room_used : (f : Function) (m : Model) (start : Option Solution) (ans : Answered) → IsStartOf f m start → IsNoWorse m start ans
+    → (e : IsExtOf m.ext.table f m.ext) → UsesRoom f m e.live ans
+room_used f m None ans is h e = λ roomy. absurd (is roomy)
+room_used f m (Some s) ans is h e = λ roomy.
+    subst (λ (n : ℕ). IsCodeWithin n ans)
+    (is.1 (record { function = f; lists = e.live; live = e.are_live; extended = e.is_extended })) h
+
+-- what starts a search is a solution
+pub start_is : (f : Function) (m : Model) (start : Option Solution) → IsStartOf f m start → IfSome start (IsSolution m)
+start_is f m None is = tt
+start_is f m (Some s) is = is.0
+
+-- code that costs no more than what costs no more
+pub within_more : (a : Answered) (n most : ℕ) → n ≤ most → IsCodeWithin n a → IsCodeWithin most a
+within_more (Code cost bound code s) n most h within = omega (arith, h, within)
+within_more Infeasible n most h within = absurd within
+within_more Spent n most h within = absurd within
+
+module _ (f : Function) (m : Model) (p : IsProblemOf f m) (nodes : ℕ) (start : Option Solution) where
   parts : (a : Answer) (ans : Answered) (u : List Node) → IsSolved m start nodes a → IsAnswerOf f m a ans u
-      → Parts f m e.live nodes ans u
+      → Parts f m start nodes ans u
   parts (Solved s cost bound t) (Code c b code x) u h w =
-      moved (λ c b x u. Parts f m e.live nodes (Code c b code x) u) c cost b bound x s u t.nodes.items w.0 w.1 w.2 w.3 (record {
+      moved (λ c b x u. Parts f m start nodes (Code c b code x) u) c cost b bound x s u t.nodes.items w.0 w.1 w.2 w.3 (record {
         few = h.tree.few;
         used = h.tree.used;
         sound = record {
@@ -103,57 +119,63 @@ module _ (f : Function) (m : Model) (e : IsExtOf m.ext.table f m.ext) (nodes : �
           simulates = w.4.simulates;
           counted = h.solution.1 ∙ sym w.4.counted;
           least = h.least;
+          loose = no_cheaper m p.own p.extended p.fit bound h.least;
           plain = plain_within m cost bound t.nodes.items h.bound;
           equal = h.equal;
           tight = h.tight;
-          roomy = roomy_cost f m cost e start is h.no_dearer;
         };
+        no_worse = no_dearer m cost bound code s start h.no_dearer;
       })
   parts (Solved s cost bound t) Infeasible u h w = absurd w
   parts (Solved s cost bound t) Spent u h w = absurd w
   parts (Refuted t) (Code c b code x) u h w = absurd w
-  parts (Refuted t) Infeasible u h w = subst (Parts f m e.live nodes Infeasible) (sym w) (record {
+  parts (Refuted t) Infeasible u h w = subst (Parts f m start nodes Infeasible) (sym w) (record {
     few = h.infeasible.0.few;
     used = h.infeasible.0.used;
     sound = record { standing = standing m None t.nodes.items h.infeasible.0.certificate; closed = h.infeasible.1 };
     searched = h.infeasible.0.certificate;
-    good = (no_start f m start is h.started, h.none);
+    good = h.none;
+    no_worse = from_none m start Infeasible h.started;
   })
   parts (Refuted t) Spent u h w = absurd w
   parts (Stopped t) (Code c b code x) u h w = absurd w
   parts (Stopped t) Infeasible u h w = absurd w
-  parts (Stopped t) Spent u h w = subst (Parts f m e.live nodes Spent) (sym w) (record {
+  parts (Stopped t) Spent u h w = subst (Parts f m start nodes Spent) (sym w) (record {
     few = h.spent.0.few;
     used = h.spent.0.used;
     sound = record { standing = standing m None t.nodes.items h.spent.0.certificate; some = h.spent.1 };
     searched = h.spent.0.certificate;
-    good = no_start f m start is h.started;
+    good = tt;
+    no_worse = from_none m start Spent h.started;
   })
 
   -- the report of a search
-  pub search_is : IsModelOf m.ext.table f m.options m → (a : Answer) (r : Report) → IsSolved m start nodes a → IsReported f m nodes a r
-      → IsSearchOf f m e.live nodes r
-  search_is g a r h w =
-      let p = parts a r.answer r.tree.nodes.items h w.answer in
+  pub search_is : (a : Answer) (r : Report) → IsSolved m start nodes a → IsReported f m nodes a r → IsSearchOf f m nodes r
+  search_is a r h w =
+      let q = parts a r.answer r.tree.nodes.items h w.answer in
       let sound : IsSoundFor m f r = record {
         named = w.named;
-        used = λ some. subst (IsOdd (length r.tree.nodes.items)) (sym w.budget) (p.used some);
-        answer = p.sound;
+        used = λ some. subst (IsOdd (length r.tree.nodes.items)) (sym w.budget) (q.used some);
+        answer = q.sound;
       } in
       record {
         versioned = w.versioned;
         chosen = w.chosen;
         budget = w.budget;
-        few = p.few;
+        few = q.few;
         sound = sound;
-        searched = p.searched;
-        accepted = search_not f m r sound p.searched m.ext.table r.options (model_under f m r.options w.chosen g);
-        answer = p.good;
+        searched = q.searched;
+        accepted = search_not f m r sound q.searched m.ext.table r.options (model_under f m r.options w.chosen p.gives);
+        answer = q.good;
       }
+
+  -- is no worse than its start
+  pub search_no_worse : (a : Answer) (r : Report) → IsSolved m start nodes a → IsReported f m nodes a r → IsNoWorse m start r.answer
+  search_no_worse a r h w = let q = parts a r.answer r.tree.nodes.items h w.answer in q.no_worse
 
 -- the report of a text from that of its function
 pub report_is : (t : Table) (f : Function) (o : Options) (m : Model) (nodes : ℕ) (text : List ℕ) (status : Status) (out : List ℕ)
-    → IsRead text f → IsModelOf t f o m → ((e : IsExtOf m.ext.table f m.ext) → IsSearchText f m e.live nodes status out)
+    → IsRead text f → IsModelOf t f o m → ((e : IsExtOf m.ext.table f m.ext) → IsSearchText f m nodes (UsesRoom f m e.live) status out)
     → IsReportOf t o nodes text status out
 report_is t f o m nodes text status out read g found = record {
   function = f;

@@ -7,12 +7,13 @@ use Rattle.un_commands.specs.declared.command.Command.TheVariants.{Reads, Makes}
 use Rattle.un_commands.specs.declared.command.MakingCommand.{MakingCommand}
 use Rattle.un_commands.specs.declared.command.MakingCommand.TheVariants.{Generate, GenerateAlloc}
 use Rattle.un_commands.specs.declared.command.ReadingCommand.{ReadingCommand}
-use Rattle.un_commands.specs.declared.command.ReadingCommand.TheVariants.{Alloc, Run, RunCode, Check}
+use Rattle.un_commands.specs.declared.command.ReadingCommand.TheVariants.{Alloc, Run, RunCode, Check, Improve}
 use Rattle.un_commands.specs.declared.command.SearchOptions.{SearchOptions}
 use Rattle.un_ir.specs.declared.function.Function.{Function}
 use Rattle.un_isa.specs.Versions.{table_of}
 use Rattle.un_isa.specs.declared.table.TheConstants.{LAST}
 use Rattle.un_outside.specs.declared.status.NoCause.{NoCause}
+use Rattle.un_outside.specs.declared.status.NoCause.TheVariants.{Solution}
 use Rattle.un_outside.specs.declared.status.Status.{Status}
 use Rattle.un_outside.specs.declared.status.Status.TheVariants.{Done, Infeasible, Spent, NoMemory, No, BadReport}
 use Rattle.un_reader.specs.Read.{IsRead}
@@ -23,6 +24,7 @@ use Rattle.un_runs.specs.Refusals.{IsFaultOf as IsFault, IsBadSourceRun, IsBadCo
 use Rattle.un_runs.specs.Shown.{IsSourceRun, IsCodeRun, IsGeneratedText}
 use Rattle.un_top.specs.Checks.{IsCheck, IsCheckInput, IsBadCheck}
 use Rattle.un_top.specs.Generated.{IsGeneratedReport}
+use Rattle.un_top.specs.Improvements.{IsImprovement, IsNumbersInput, IsBadNumbers}
 use Rattle.un_top.specs.Reports.{IsReportOf}
 use Rattle.un_top.specs.declared.limits.TheConstants.{INPUT}
 
@@ -84,7 +86,7 @@ IsSearched Infeasible = Unit {0}
 IsSearched Spent = Unit {0}
 IsSearched status = IsDone status
 
--- or a report was not accepted
+-- or a report, or the numbers of a schedule, were not accepted
 abbrev pub IsChecked : Status → Type 0
 IsChecked (No cause) = Unit {0}
 IsChecked status = IsDone status
@@ -97,6 +99,10 @@ EndsSearch status = (status ≡ Done) ⊎ ((status ≡ Infeasible) ⊎ (status �
 
 abbrev pub EndsCheck : Status → Type 0
 EndsCheck status = (status ≡ Done) ⊎ ((cause : NoCause) × (status ≡ No cause))
+
+-- there is code, or the numbers are no schedule
+abbrev pub EndsImprove : Status → Type 0
+EndsImprove status = (status ≡ Done) ⊎ ((clause : ℕ) × (status ≡ No (Solution clause)))
 
 -- ---- the commands over an input
 
@@ -152,11 +158,25 @@ of_check = record {
   EndsWell = λ text status. IsChecked status;
 }
 
+-- the report of a function, by a search from the numbers of a schedule of any length on
+abbrev pub of_improve : SearchOptions → Behaviour
+of_improve o = record {
+  most = INPUT;
+  Output = λ text status out. (length text ≤ INPUT) × IsImprovement (table_of LAST) (model_options o) o.nodes text status out;
+  Ending = EndsImprove;
+  Fault = IsPartFault;
+  Faultless = HasNoPartFault;
+  Late = IsBadPart IsBadNumbers;
+  Good = λ text. (length text ≤ INPUT) × IsNumbersInput text;
+  EndsWell = λ text status. IsChecked status;
+}
+
 abbrev pub behaviour_of : ReadingCommand → Behaviour
 behaviour_of (Alloc o) = of_alloc o
 behaviour_of Run = of_run
 behaviour_of RunCode = of_run_code
 behaviour_of Check = of_check
+behaviour_of (Improve o) = of_improve o
 
 -- ---- the commands without one
 

@@ -16,7 +16,7 @@ use Rattle.un_report_reader.specs.Readings.{IsReport}
 use Rattle.un_report.specs.declared.report.Answered.{Answered}
 use Rattle.un_report.specs.declared.report.Answered.TheVariants.{Code, Infeasible, Spent}
 use Rattle.un_report.specs.declared.report.Report.{Report}
-use Rattle.un_top.specs.Reports.{IsSearchOf, status_of}
+use Rattle.un_top.specs.Reports.{IsSearchOf, UsesRoom, status_of}
 
 -- 0 where there is no code
 abbrev pub cost_in : Answered → ℕ
@@ -50,7 +50,8 @@ summary_line seed size f r = function_words seed size f ++ report_words r
 -- the text of a search's report, which is one that is read, behind this line; a run that writes it whole ends so
 pub record IsSummedUp (seed size nodes : ℕ) (f : Function) (m : Model) (live : List (List NameId)) (status : Status) (out : List ℕ) : Type 0 where
   pub report : Report
-  pub found : IsSearchOf f m live nodes report
+  pub found : IsSearchOf f m nodes report
+  pub room : UsesRoom f m live report.answer
   pub is_report : IsReport report
   pub ends : status ≡ status_of report.answer
   pub printed : out ≡ summary_line seed size f report ++ report_text report

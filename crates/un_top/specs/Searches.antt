@@ -20,12 +20,18 @@ use Rattle.un_report.specs.declared.report.Report.{Report}
 use Rattle.un_report_reader.specs.Lines.{IsLong}
 use Rattle.un_search.specs.declared.solve.Answer.{Answer}
 use Rattle.un_search.specs.declared.solve.Answer.TheVariants.{Code as Solved, Infeasible as Refuted, Spent as Stopped}
+use Rattle.un_top.specs.Reports.{IsCodeWithin}
 
 -- a solution that costs what it costs to keep each name in a frame slot of its own, where the options have room for that
 abbrev pub IsStartOf : Function → Model → Option Solution → Type 0
 IsStartOf f m None = AreRoomyFor f m.options → ⊥
 IsStartOf f m (Some s) =
     IsSolution m s × ((source : IsOfFunction m.ext) → cost_of m s ≡ spill_cost m.ext.table source.function source.lists)
+
+-- an answer is no worse than that from which its search went on: where there was a solution, it is code that costs no more
+abbrev pub IsNoWorse : Model → Option Solution → Answered → Type 0
+IsNoWorse m None a = ⊤
+IsNoWorse m (Some s) a = IsCodeWithin (cost_of m s) a
 
 -- the code of a solution, which does what the function does and costs what the solution costs
 pub record IsCodeOf (f : Function) (m : Model) (s : Solution) (code : CodeValue) : Type 0 where

@@ -46,7 +46,7 @@ fn put_counted(out: &mut Vec<u8>, words: &[u8], n: u64) -> Result<(), NoMemory>
 }
 
 /// Appends the line for a cause.
-fn put_no(out: &mut Vec<u8>, cause: NoCause) -> Result<(), NoMemory>
+pub(crate) fn put_no(out: &mut Vec<u8>, cause: NoCause) -> Result<(), NoMemory>
     ensures { OnOk result (out.new.items ≡ out.old.items ++ no_line cause) }
 {
     match cause {

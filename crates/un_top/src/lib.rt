@@ -4,6 +4,7 @@
 pub mod check;
 pub mod faults;
 pub mod generated;
+pub mod improve;
 pub mod laws;
 pub mod limits;
 pub mod output;

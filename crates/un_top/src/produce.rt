@@ -12,13 +12,14 @@ ghost use Rattle.un_isa.specs.Versions.{table_of};
 ghost use Rattle.un_isa.specs.declared.table.TheConstants.{LAST};
 ghost use Rattle.un_problem.specs.Problems.{IsProblemOf, IsExtOf};
 ghost use Rattle.un_reader.specs.Read.{IsRead};
-ghost use Rattle.un_top.specs.Behaviours.{of_alloc, of_run, of_run_code, of_check, behaviour_of, IsMade};
-ghost use Rattle.un_top.specs.Reports.{IsReportOf, IsSearchText};
+ghost use Rattle.un_top.specs.Behaviours.{of_alloc, of_run, of_run_code, of_check, of_improve, behaviour_of, IsMade};
+ghost use Rattle.un_top.specs.Reports.{IsReportOf, IsSearchText, UsesRoom};
 ghost use Rattle.un_top.specs.Runs.{status_by, IsOutputOf, EndsSo, IsWritten, IsLate, RefusesText, Refuses, RefusesWords};
 ghost use Rattle.un_top.specs.declared.limits.TheConstants.{INPUT};
 
 use crate::check::check_input;
 use crate::generated::generated_report;
+use crate::improve::improve_input;
 use crate::limits::INPUT;
 use crate::output::{Output, printed};
 use crate::reading::function_of;
@@ -46,7 +47,8 @@ const TOO_MANY: u8 = 13;
 fn found(alloc: Global, f: &Function, m: &Model, nodes: u32) -> Result<Output, NoMemory>
     requires problem { IsProblemOf f.now m.now }
     requires nodes { IsCountOfNodes nodes }
-    ensures found { IfOk result (λ out. (e : IsExtOf m.now.ext.table f.now m.now.ext) → IsSearchText f.now m.now e.live nodes out.status out.text.items) }
+    ensures found { IfOk result (λ out. (e : IsExtOf m.now.ext.table f.now m.now.ext)
+        → IsSearchText f.now m.now nodes (UsesRoom f.now m.now e.live) out.status out.text.items) }
     ensures written { IfOk result (λ out. IsWritten out.status) }
 {
     let report = search_report(alloc, f, m, nodes)?;
@@ -150,6 +152,20 @@ fn check_output(alloc: Global, text: &[u8]) -> Result<Output, Status>
     }
 }
 
+/// The answer to the numbers of a schedule of a function.
+fn improve_output(alloc: Global, text: &[u8], options: SearchOptions) -> Result<Output, Status>
+    requires options { AreSearchOptions options }
+    requires few { length text.now ≤ INPUT }
+    ensures ok { IfOk result (λ out. (of_improve options).Output text.now out.status out.text.items) }
+    ensures written { IfOk result (λ out. IsWritten out.status) }
+    ensures refused { IfErr result (RefusesText (of_improve options) text.now) }
+{
+    match improve_input(alloc, text, options) {
+        Ok(output) => Ok(output),
+        Err(refused) => Err(status_by(refused)),
+    }
+}
+
 /// How many bytes the input of a command may have.
 fn most_bytes(command: ReadingCommand) -> usize
     ensures { result ≡ (behaviour_of command).most }
@@ -159,6 +175,7 @@ fn most_bytes(command: ReadingCommand) -> usize
         ReadingCommand::Run => INPUT,
         ReadingCommand::RunCode => INPUT,
         ReadingCommand::Check => INPUT,
+        ReadingCommand::Improve(_) => INPUT,
     }
 }
 
@@ -175,6 +192,7 @@ fn over_input(alloc: Global, command: ReadingCommand, text: &[u8]) -> Result<Out
         ReadingCommand::Run => source_output(alloc, text),
         ReadingCommand::RunCode => code_output(alloc, text),
         ReadingCommand::Check => check_output(alloc, text),
+        ReadingCommand::Improve(options) => improve_output(alloc, text, options),
     }
 }
 

@@ -1,18 +1,20 @@
-//! What the program reads of texts: a function, and the view of a report.
+//! What the program reads of texts: a function, the view of a report, and the numbers of a solution.
 
 ghost use Rattle.std.specs.Prelude.{◌≡◌, IfOk, IfErr};
 ghost use Rattle.un_reader.specs.Read.{IsRead};
-ghost use Rattle.un_report_reader.specs.Readings.{IsViewRead};
+ghost use Rattle.un_report_reader.specs.Readings.{IsViewRead, IsNumbers};
 ghost use Rattle.un_runs.specs.Refusals.{RefusesFunction};
 ghost use Rattle.un_top.specs.Checks.{unread_by, unviewed_by, RefusesReport};
+ghost use Rattle.un_top.specs.Improvements.{RefusesNumbers};
 
 use std::alloc::Global;
 use un_ir::function::Function;
+use un_model::model::Solution;
 use un_reader::error::ReadError;
 use un_reader::read::read_function;
 use un_report::view::ReportView;
 use un_report_reader::error::ReportError;
-use un_report_reader::read::read_view;
+use un_report_reader::read::{read_numbers, read_view};
 use un_runs::refused::Refused;
 
 /// Why there is no outcome where a function's text is not read.
@@ -53,6 +55,17 @@ pub(crate) fn view_of<'a>(alloc: Global, text: &'a [u8]) -> Result<ReportView<'a
 {
     match read_view(alloc, text) {
         Ok(view) => Ok(view),
+        Err(error) => Err(unviewed_by(error)),
+    }
+}
+
+/// The numbers of a solution that a text is.
+pub(crate) fn numbers_of(alloc: Global, text: &[u8]) -> Result<Solution, Refused>
+    ensures ok { IfOk result (λ s. IsNumbers text.now s.values) }
+    ensures refused { IfErr result (RefusesNumbers text.now) }
+{
+    match read_numbers(alloc, text) {
+        Ok(s) => Ok(s),
         Err(error) => Err(unviewed_by(error)),
     }
 }

@@ -1,14 +1,14 @@
 //! The report of a search for the code of a function.
 
-ghost use Rattle.std.specs.Prelude.{◌≡◌, ◌≤◌, IfOk};
+ghost use Rattle.std.specs.Prelude.{◌≡◌, ◌≤◌, IfOk, IfSome};
 ghost use Rattle.un_commands.specs.Settings.{IsCountOfNodes};
 ghost use Rattle.un_isa.specs.declared.table.TheConstants.{LAST};
 ghost use Rattle.un_model.specs.Solutions.{IsSolution};
 ghost use Rattle.un_problem.specs.Problems.{IsProblemOf, IsExtOf};
 ghost use Rattle.un_report_reader.specs.Readings.{IsReport};
 ghost use Rattle.un_search.specs.Solved.{OnCode};
-ghost use Rattle.un_top.specs.Reports.{IsSearchOf};
-ghost use Rattle.un_top.specs.Searches.{IsStartOf, IsCodeOf, IsReported};
+ghost use Rattle.un_top.specs.Reports.{IsSearchOf, UsesRoom};
+ghost use Rattle.un_top.specs.Searches.{IsStartOf, IsNoWorse, IsCodeOf, IsReported};
 
 use std::alloc::Global;
 use un_base::memory_error::NoMemory;
@@ -100,18 +100,41 @@ fn code_report(
     }
 }
 
-/// The report of a search with at most so many nodes for code of a function, whose model this is.
+/// The report of a search with at most so many nodes for code of a function, whose model this is, from a solution on where there is one.
+///
+/// # Errors
+/// `NoMemory` where there is no memory for the search or the code.
+pub fn report_from(
+    alloc: Global,
+    f: &Function,
+    m: &Model,
+    start: Option<Solution>,
+    nodes: u32,
+) -> Result<Report, NoMemory>
+    requires problem { IsProblemOf f.now m.now }
+    requires start { IfSome start (IsSolution m.now) }
+    requires some { 1 ≤ nodes }
+    ensures search { IfOk result (IsSearchOf f.now m.now nodes) }
+    ensures no_worse { IfOk result (λ r. IsNoWorse m.now start r.answer) }
+    ensures read { IsCountOfNodes nodes → IfOk result IsReport }
+{
+    let solved = solve(alloc, m, start, nodes)?;
+    let report = code_report(alloc, f, m, nodes, solved)?;
+    Ok(report)
+}
+
+/// The report of such a search from the solution on that keeps each name in a frame slot of its own, where the options have room for that.
 ///
 /// # Errors
 /// `NoMemory` where there is no memory for the search or the code.
 pub fn search_report(alloc: Global, f: &Function, m: &Model, nodes: u32) -> Result<Report, NoMemory>
     requires problem { IsProblemOf f.now m.now }
     requires some { 1 ≤ nodes }
-    ensures search { IfOk result (λ r. (e : IsExtOf m.now.ext.table f.now m.now.ext) → IsSearchOf f.now m.now e.live nodes r) }
+    ensures search { IfOk result (IsSearchOf f.now m.now nodes) }
+    ensures room { IfOk result (λ r. (e : IsExtOf m.now.ext.table f.now m.now.ext) → UsesRoom f.now m.now e.live r.answer) }
     ensures read { IsCountOfNodes nodes → IfOk result IsReport }
 {
     let start = start_of(alloc, f, m)?;
-    let solved = solve(alloc, m, start, nodes)?;
-    let report = code_report(alloc, f, m, nodes, solved)?;
+    let report = report_from(alloc, f, m, start, nodes)?;
     Ok(report)
 }

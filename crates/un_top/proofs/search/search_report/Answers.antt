@@ -1,27 +1,9 @@
-use Rattle.un_top.proofs.SearchLaws.{search_is}
-use Rattle.un_top.proofs.Written.{is_report}
+use Rattle.un_top.proofs.SearchLaws.{start_is, room_used}
 use Rattle.un_top.proofs.search.search_report.Goals as goal
 
-pub returns-clause-search : goal.returns-clause-search
-returns-clause-search c = λ e.
-    let s = c.in_ok-solved.ensures in
-    search_is c.args.f.now c.args.m.now e c.args.nodes c.in_ok-start.start c.in_ok-start.ensures
-    c.requires.problem.gives c.in_ok-solved.solved c.in_ok-report.report (record {
-      solution = s.solution;
-      no_dearer = s.no_dearer;
-      tight = s.tight;
-      tree = s.tree;
-      bound = s.bound;
-      least = s.least;
-      equal = s.equal;
-      started = s.started;
-      infeasible = s.infeasible;
-      none = s.none;
-      spent = s.spent;
-    }) c.in_ok-report.ensures
+pub report_from-requires-clause-start : goal.report_from-requires-clause-start
+report_from-requires-clause-start c = start_is c.args.f.now c.args.m.now c.in_ok-start.start c.in_ok-start.ensures
 
-pub returns-clause-read : goal.returns-clause-read
-returns-clause-read c = λ count.
-    let found = returns-clause-search c c.requires.problem.gives.ext in
-    is_report c.args.f.now c.args.m.now c.args.nodes c.in_ok-report.report c.requires.problem found.versioned found.chosen found.budget found.sound found.few
-    c.in_ok-report.ensures.long count
+pub returns-clause-room : goal.returns-clause-room
+returns-clause-room c =
+    room_used c.args.f.now c.args.m.now c.in_ok-start.start c.in_ok-report.report.answer c.in_ok-start.ensures c.in_ok-report.ensures.no_worse
