@@ -7,12 +7,15 @@ mod attempts;
 mod chains;
 mod clock;
 mod firsts;
+mod help;
 mod node;
 mod part;
 mod request;
 mod rounds;
 mod runs;
 mod shown;
+mod sweep;
+mod swept;
 mod times;
 
 use crate::request::asked_for;

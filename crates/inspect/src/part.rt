@@ -9,15 +9,17 @@ ghost use Rattle.un_problem.specs.Problems.{IsProblemOf};
 
 use crate::attempts::put_attempts;
 use crate::firsts::put_first;
+use crate::help::put_help;
 use crate::node::node_of;
 use crate::request::{Part, Request, Shown};
 use crate::rounds::put_rounds;
+use crate::sweep::put_sweep;
 use crate::times::put_timed;
 use std::alloc::Global;
 use std::time::CpuClock;
 use un_base::memory_error::NoMemory;
 use un_baseline::spill::spill_everywhere;
-use un_drawn::drawn::put_drawn;
+use un_drawn::drawn::{Form, put_drawn};
 use un_ir::function::Function;
 use un_ir::text::put_text;
 use un_isa::table::Table;
@@ -101,16 +103,38 @@ fn arcs(out: &mut Vec<u8>, f: &Function, m: &Model) -> Result<(), NoMemory>
     put_all_arcs(out, m)
 }
 
+/// The solution that a text gives, drawn or explained; and behind an explanation what would help.
+fn drawn(
+    alloc: Global,
+    out: &mut Vec<u8>,
+    f: &Function,
+    t: &Table,
+    m: &Model,
+    rest: &[u8],
+    form: Form,
+) -> Result<(), Status>
+    requires problem { IsProblemOf f.now m.now }
+    requires fit { IsFit t.now }
+{
+    put_drawn(alloc, out, f, m, rest, form)?;
+    match form {
+        Form::Words => told(put_help(alloc, out, f, t, m, rest)),
+        _ => Ok(()),
+    }
+}
+
 /// What is shown of a function's model, and of what stands behind the function.
 fn put_of_model(
     alloc: Global,
     out: &mut Vec<u8>,
     shown: Shown,
     f: &Function,
+    t: &Table,
     m: &Model,
     rest: &[u8],
 ) -> Result<(), Status>
-    requires { IsProblemOf f.now m.now }
+    requires problem { IsProblemOf f.now m.now }
+    requires fit { IsFit t.now }
 {
     match shown {
         Shown::Variables => told(put_variables(out, m)),
@@ -118,7 +142,7 @@ fn put_of_model(
         Shown::Emit => code(alloc, out, f, m, rest),
         Shown::Arcs => told(arcs(out, f, m)),
         Shown::Rounds => rounds(alloc, out, f, m, rest),
-        Shown::Drawn(form) => put_drawn(alloc, out, f, m, rest, form),
+        Shown::Drawn(form) => drawn(alloc, out, f, t, m, rest, form),
     }
 }
 
@@ -136,7 +160,7 @@ fn put_shown(
     requires options { AreOptions options.now }
 {
     match model(alloc, f, t, options) {
-        Ok(m) => put_of_model(alloc, out, shown, f, &m, rest),
+        Ok(m) => put_of_model(alloc, out, shown, f, t, &m, rest),
         Err(_) => Err(Status::NoMemory),
     }
 }
@@ -172,6 +196,24 @@ fn put_by_default(
     }
 }
 
+/// How many nodes a search has for each number of registers, where no word says it.
+const NODES: u32 = 200;
+
+/// What code costs with each number of registers.
+fn swept(
+    alloc: Global,
+    out: &mut Vec<u8>,
+    asked: &Request,
+    f: &Function,
+    t: &Table,
+) -> Result<(), NoMemory>
+    requires options { AreOptions asked.now.options }
+    requires fit { IsFit t.now }
+{
+    let nodes = asked.counts.first.unwrap_or(NODES).max(1);
+    put_sweep(alloc, out, f, t, &asked.options, nodes)
+}
+
 /// What is asked for, of a function and an input, which has the function's text, for a table.
 pub fn put_part(
     rt: &impl CpuClock,
@@ -189,6 +231,7 @@ pub fn put_part(
         Part::Live => told(put_live(alloc, out, f)),
         Part::Extended => told(put_extended(alloc, out, f, t)),
         Part::Model(shown) => put_shown(alloc, out, shown, f, t, &asked.options, input.rest),
+        Part::Sweep => told(swept(alloc, out, asked, f, t)),
         _ => told(put_by_default(rt, alloc, out, asked, f, t, input.function)),
     }
 }

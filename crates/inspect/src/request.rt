@@ -3,6 +3,7 @@
 ghost use Rattle.std.specs.Prelude.{◌≤◌, ◌<◌, ◌^◌, IfOk, IfSome};
 ghost use Rattle.un_model.specs.Options.{AreOptions, IsCountOfRegisters};
 
+use crate::swept::sweep_options;
 use un_base::decimal::read_decimal;
 use un_drawn::drawn::Form;
 use un_isa::reg::SLOTS;
@@ -45,12 +46,15 @@ pub enum Part {
     First,
     /// A store with chains of precedences, of no function.
     Chains,
+    /// What code costs with each number of registers.
+    Sweep,
 }
 
 /// The numbers behind a word: each is 1 to 1,000,000.
 #[derive(Clone, Copy)]
 pub struct Counts {
-    /// How often a part is called, how many nodes an attempt has, or how many precedences there are; None where it is left out.
+    /// How often a part is called, how many nodes an attempt or a search has, or how many precedences there are; None where it is left
+    /// out.
     pub first: Option<u32>,
     /// How often a model is posted, by how many trials attempts begin, or how many marks are set; 1 where it is left out.
     pub second: u32,
@@ -83,7 +87,7 @@ const DEFAULT: Options = Options {
 };
 
 /// The words, and the part that each names.
-static PARTS: [(&[u8], Part); 14] = [
+static PARTS: [(&[u8], Part); 15] = [
     (b"live", Part::Live),
     (b"extended", Part::Extended),
     (b"variables", Part::Model(Shown::Variables)),
@@ -98,6 +102,7 @@ static PARTS: [(&[u8], Part); 14] = [
     (b"search", Part::Search),
     (b"first", Part::First),
     (b"chains", Part::Chains),
+    (b"sweep", Part::Sweep),
 ];
 
 /// The part that a word names.
@@ -125,7 +130,7 @@ fn number_in(word: &Word, low: u32, high: u32) -> Option<u32>
 ///
 /// # Errors
 /// The place, where it is none.
-fn number_at(words: &[Word], place: u32, low: u32, high: u32) -> Result<u32, u32>
+pub(crate) fn number_at(words: &[Word], place: u32, low: u32, high: u32) -> Result<u32, u32>
     ensures low { IfOk result (λ n. low ≤ n) }
     ensures high { IfOk result (λ n. n ≤ high) }
 {
@@ -262,6 +267,25 @@ fn request_of(part: Part, words: &[Word]) -> Result<Request, u32>
     Ok(asked)
 }
 
+/// What words ask for that begin with `sweep`.
+///
+/// # Errors
+/// The least place at which no accepted list of words begins so.
+fn sweep_of(words: &[Word]) -> Result<Request, u32>
+    ensures { IfOk result (λ r. AreOptions r.options) }
+{
+    let swept = sweep_options(words)?;
+    let slots = swept.slots.unwrap_or(SLOTS);
+    Ok(Request {
+        part: Part::Sweep,
+        options: Options { regs: None, slots },
+        counts: Counts {
+            first: swept.nodes,
+            second: 1,
+        },
+    })
+}
+
 /// What words ask for that begin with a part's and `--svg`, which only the part of tables takes.
 ///
 /// # Errors
@@ -297,6 +321,7 @@ pub fn asked_for(words: &[Word]) -> Result<Request, u32>
     ensures { IfOk result (λ r. AreOptions r.options) }
 {
     match words.first().and_then(named_part) {
+        Some(Part::Sweep) => sweep_of(words),
         Some(part) if has_svg(words) => drawing_of(part, words),
         Some(part) => request_of(part, words),
         None => Err(0),

@@ -8,9 +8,12 @@ use un_commands::line::read_command;
 use un_outside::words::Word;
 
 /// The first words of commands.
-static COMMANDS: [&str; 7] = ["alloc", "run", "check", "gen", "asm", "inspect", "build"];
+static COMMANDS: [&str; 11] = [
+    "alloc", "run", "check", "improve", "gen", "asm", "compare", "sweep", "import", "inspect",
+    "build",
+];
 
-/// The options of `alloc`.
+/// The options of `alloc`; `improve` has the first three.
 static OPTIONS: [&str; 6] = ["--nodes", "--regs", "--slots", "--all", "--json", "--out"];
 
 /// What is said of a word: what is wrong, and what would be accepted.
@@ -65,7 +68,9 @@ fn first_advice(alloc: Global, words: &[Word]) -> Result<Advice, NoMemory> {
         }
         None => advised(
             wrong,
-            format!(in alloc; "the commands are alloc, run, check, gen, asm, inspect and build"),
+            format!(in alloc;
+                "the commands are alloc, run, check, improve, gen, asm, compare, sweep, import, inspect and build"
+            ),
         ),
     }
 }
@@ -129,7 +134,7 @@ fn option_advice(alloc: Global, words: &[Word], place: usize) -> Result<Advice, 
     }
 }
 
-/// What is said of a word of `alloc`: options stand at odd places, their numbers behind them.
+/// What is said of a word of `alloc` or `improve`: options stand at odd places, their numbers behind them.
 fn alloc_advice(alloc: Global, words: &[Word], place: usize) -> Result<Advice, NoMemory> {
     if place.rem_euclid(2) == 1 {
         return option_advice(alloc, words, place);
@@ -186,6 +191,7 @@ fn advice_at(alloc: Global, words: &[Word], place: usize) -> Result<Advice, NoMe
     };
     match first.as_bytes() {
         b"alloc" => alloc_advice(alloc, words, place),
+        b"improve" => alloc_advice(alloc, words, place),
         b"gen" => gen_advice(alloc, words, place),
         b"run" => more_advice(
             alloc,
