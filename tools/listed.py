@@ -100,6 +100,12 @@ class Operation:
         return self.word in ("d", "d2", "u", "u2")
 
 
+def kind_of(operation):
+    """What an operation of the source does to memory: load, store or call; None where it does nothing to it."""
+    word = operation.word.split()[0]
+    return word if word in ("load", "store", "call") else None
+
+
 class Held:
     """A value where a listing has it: its value, the temporary that it is once that is known, and who reads it."""
 
@@ -149,6 +155,8 @@ class Block:
         writes = []
         for it in packet:
             writes += self.place(it, cycle)
+        for it in packet:
+            self.keep_order(it, cycle)
         for place, held in writes:
             if held is None:
                 self.at.pop(place, None)
@@ -156,12 +164,23 @@ class Block:
                 self.at[place] = held
         return cycle
 
+    def keep_order(self, it, cycle):
+        """Refuses an access or a call that issues with or ahead of one which stands before it; a store may issue beside such loads."""
+        own = it.own
+        if own is None or kind_of(own) is None:
+            return
+        for other in self.operations[: self.operations.index(own)]:
+            is_free = kind_of(other) is None or kind_of(own) == kind_of(other) == "load"
+            beside = other.cycle == cycle and kind_of(other) == "load" and kind_of(own) == "store"
+            if not (is_free or beside or (other.is_issued and other.cycle < cycle)):
+                raise Unplaced(f"line {it.line}: `{it.text}` goes with or ahead of a `{other.word}` that stands before it in the function")
+
     def place(self, it, cycle):
         """Matches an instruction, and answers what stands where behind its packet."""
         for r in it.reads:
             if r not in self.at and it.word != "ret":
                 raise Unplaced(f"line {it.line}: `{it.text}` reads a register that has no value of the function here")
-        own = self.find(it)
+        own = it.own = self.find(it)
         if own is not None:
             return self.issued(own, it, cycle)
         if it.word == "move":
