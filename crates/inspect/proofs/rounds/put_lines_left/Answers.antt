@@ -7,5 +7,5 @@ use Rattle.inspect.proofs.rounds.put_lines_left.Goals as goal
 pub put_all_left-requires : goal.put_all_left-requires
 put_all_left-requires c =
     let at = engine_at c.args.posted.props.items c.decide_all.new.store.sets c.in_ok-engine.field-0 c.in-Some.engine
-        c.in_ok-engine.ensures c.in-Some.is in
+    c.in_ok-engine.ensures c.in-Some.is in
     subst (λ (s : Contents). NoneEmpty s.sets) (sym c.store-in-Some.ensures) at.live
