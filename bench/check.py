@@ -81,7 +81,7 @@ def balanced(leaves, var=0, low=0, high=63):
 def spent(tree):
     """A report of the smallest function with this tree."""
     count = len(tree)
-    head = ["unison 2", "function f", f"model regs all slots 256 nodes {count}", "answer spent", f"tree {count}"]
+    head = ["unison 3", "function f", f"model regs all slots 256 nodes {count}", "answer spent", f"tree {count}"]
     return "\n".join([*head, *tree, "end", ""]).encode()
 
 

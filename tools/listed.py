@@ -1,9 +1,10 @@
 #!/usr/bin/env python3
-"""listed.py FUNCTION EXTENDED LIVE VARIABLES LISTING: the numbers of the schedule that a listing is, as `improve` reads them.
+"""listed.py FUNCTION EXTENDED LIVE VARIABLES LISTING [LINES]: the numbers of the schedule that a listing is, as `improve` reads them.
 
 EXTENDED, LIVE and VARIABLES are what `inspect` prints of the function; LISTING is code in the spelling of docs/LANGUAGE.md, with the
 function's blocks in its order. Each instruction is matched with an operation that reads the same values, or with a copy of a value. Where
-one cannot be, its line is told, and the exit status is 1. Nothing rests on this: `improve` judges the numbers.
+one cannot be, or a packet has no room for all that it has, its line is told, and the exit status is 1; LINES has for each line of LISTING
+the line to tell in its place. Nothing rests on this: `improve` judges the numbers.
 """
 import re
 import sys
@@ -15,6 +16,7 @@ SWAPS = {"add", "and", "or", "xor", "mpyi", "cmpeq"}
 CLOBBERED = {*range(16), 28, LINK, *range(FIRST_PREDICATE, FIRST_SLOT)}
 TRANSFERS = {"jump", "if", "if !", "ret"}
 KEPT = {0, *range(16, 28)}
+ROOM = {"instructions": 4, "accesses to memory": 2, "stores": 1, "shifts, products, moves of predicates and transfers": 2, "transfers": 1}
 REGISTER = r"(r\d+|p\d)"
 SIMPLE = [
     (rf"{REGISTER} = memw\((r\d+)\+#(-?\d+)\)", lambda d, a, n: ("load", d, [a], n)),
@@ -31,6 +33,8 @@ SIMPLE = [
     (r"jump (\S+)", lambda l: ("jump", None, [], None)),
     (r"if \((p\d)\) jump (\S+)", lambda p, l: ("if", None, [p], None)),
     (r"if \(!(p\d)\) jump (\S+)", lambda p, l: ("if !", None, [p], None)),
+    (r"if \((p\d)\.new\) jump (\S+)", lambda p, l: ("if", None, [p], None)),
+    (r"if \(!(p\d)\.new\) jump (\S+)", lambda p, l: ("if !", None, [p], None)),
     (r"jumpr (r31)", lambda a: ("ret", None, [a], None)),
 ]
 
@@ -55,6 +59,8 @@ class Instruction:
 
     def __init__(self, line, text):
         self.line, self.text, self.target = line, text, target_of(text)
+        # (such a jump tests what its own packet writes)
+        self.is_fresh, self.own = ".new)" in text, None
         if found := re.fullmatch(r"r29 = add\(r29,#(-?)\d+\)", text):
             self.word, self.gives, self.reads, self.literal = "enter" if found[1] else "leave", None, [], None
             return
@@ -67,6 +73,20 @@ class Instruction:
                 self.to_slot()
                 return
         raise Unplaced(f"line {line}: `{text}` is no instruction of the subset")
+
+    def takes(self):
+        """What it takes of a packet's room."""
+        word, found = self.word.split()[0], {"instructions"}
+        slots = [it for it in [self.gives, *self.reads] if it is not None and it >= FIRST_SLOT]
+        if word in ("load", "store") or slots:
+            found.add("accesses to memory")
+        if word == "store" or slots and self.gives in slots:
+            found.add("stores")
+        moves = word == "move" and any(FIRST_PREDICATE <= it < FIRST_SLOT for it in [self.gives, *self.reads])
+        transfers = word in ("jump", "if", "ret", "call")
+        if word in ("asl", "asr", "lsr", "mpyi") or moves or transfers:
+            found.add("shifts, products, moves of predicates and transfers")
+        return found | ({"transfers"} if transfers else set())
 
     def to_slot(self):
         """Makes an access to the frame a move from or to its slot."""
@@ -123,6 +143,10 @@ class Block:
         self.starts, self.nexts, self.names = None, [], []
         self.at, self.held, self.moves = {}, [], []
 
+    def is_idle(self):
+        """Whether it has no operation of the source."""
+        return all(it.is_copy() or it.word in ("in", "out", "enter", "leave") for it in self.operations)
+
     def hold(self, *parts):
         self.held.append(Held(*parts))
         return self.held[-1]
@@ -150,18 +174,24 @@ class Block:
 
     def issue_packet(self, packet, cycle):
         """Issues a packet in this cycle, or in the first one in which what it reads is there, and answers which that was."""
-        for it in packet:
+        for kind, room in ROOM.items():
+            if (count := sum(kind in it.takes() for it in packet)) > room:
+                raise Unplaced(f"line {packet[0].line}: a packet has room for {room} {kind}, and this one has {count}")
+        early, fresh = [it for it in packet if not it.is_fresh], [it for it in packet if it.is_fresh]
+        for it in early:
             cycle = max([cycle] + [self.at[r].ready for r in it.reads if r in self.at])
         writes = []
-        for it in packet:
+        for it in early:
             writes += self.place(it, cycle)
-        for it in packet:
+        for it in early:
             self.keep_order(it, cycle)
         for place, held in writes:
             if held is None:
                 self.at.pop(place, None)
             else:
                 self.at[place] = held
+        for it in fresh:
+            self.place(it, cycle)
         return cycle
 
     def keep_order(self, it, cycle):
@@ -281,22 +311,44 @@ def read_extended(text):
     return blocks
 
 
-def read_packets(blocks, text):
-    """Gives each block its packets, in which jumps lead to the function's labels."""
-    labels = []
+def read_sections(text, told):
+    """The labels of a listing's blocks with their packets; a line goes by its number in `told`, where that has it."""
+    sections = []
     for number, line in enumerate(text.splitlines(), 1):
         if line.startswith("block "):
-            labels.append(line.split()[1])
-            if len(labels) > len(blocks):
-                raise Unplaced(f"line {number}: the function has {len(blocks)} blocks")
+            sections.append((line.split()[1], []))
         elif line.startswith("{"):
             texts = [it.strip() for it in line.strip("{} ").split(";")]
-            blocks[len(labels) - 1].packets.append([Instruction(number, it) for it in texts if it not in ("", "nop")])
-    if len(labels) < len(blocks):
-        raise Unplaced(f"the listing has {len(labels)} blocks, the function {len(blocks)}")
-    own = {label: block.label for label, block in zip(labels, blocks)}
-    for it in [it for block in blocks for packet in block.packets for it in packet]:
+            number = told[number - 1] if told else number
+            sections[-1][1].append([Instruction(number, it) for it in texts if it not in ("", "nop")])
+    return sections
+
+
+def with_last(items, is_empty):
+    """For each item the place, among those that are not empty, of the first such one from it on."""
+    places, seen = [], 0
+    for it in items:
+        places.append(seen)
+        seen += not is_empty(it)
+    return places
+
+
+def read_packets(blocks, text, told):
+    """Gives each block its packets, and has all jumps lead to the places of blocks; blocks without an operation may lack in the listing."""
+    sections = read_sections(text, told)
+    idle = lambda block: len(sections) != len(blocks) and block.is_idle()
+    empty = lambda section: len(sections) != len(blocks) and not section[1]
+    own = dict(zip([it.label for it in blocks], with_last(blocks, idle)))
+    theirs = dict(zip([it[0] for it in sections], with_last(sections, empty)))
+    busy, told_of = [it for it in blocks if not idle(it)], [it for it in sections if not empty(it)]
+    if len(busy) != len(told_of):
+        raise Unplaced(f"the listing has {len(told_of)} blocks with packets, the function {len(busy)} with operations")
+    for block, section in zip(busy, told_of):
+        block.packets = section[1]
+    for it in [it for block in blocks for it in block.operations]:
         it.target = own.get(it.target, it.target)
+    for it in [it for block in blocks for packet in block.packets for it in packet]:
+        it.target = theirs.get(it.target, it.target)
 
 
 def link(blocks, live, function):
@@ -323,7 +375,7 @@ def needs_before(packet, later):
     for it in packet:
         later = later - {it.gives} - (CLOBBERED if it.word.startswith("call") else set())
     for it in packet:
-        later = later | set(it.reads) | (KEPT if it.word == "ret" else set())
+        later = later | (set() if it.is_fresh else set(it.reads)) | (KEPT if it.word == "ret" else set())
     return later
 
 
@@ -434,10 +486,10 @@ def numbers(blocks, variables):
 
 
 def main(paths):
-    function, extended, live, variables, listing = (open(it, encoding="utf-8", errors="replace").read() for it in paths)
+    function, extended, live, variables, listing, *lines = (open(it, encoding="utf-8", errors="replace").read() for it in paths)
     blocks = read_extended(extended)
     try:
-        read_packets(blocks, listing)
+        read_packets(blocks, listing, [int(it) for it in lines[0].split()] if lines else [])
         link(blocks, live, function)
         schedule(blocks)
     except Unplaced as fault:

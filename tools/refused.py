@@ -59,7 +59,7 @@ block e
 { r29 = add(r29,#8); jumpr r31 }
 """
 START = "---\nreg 0 5\nreg 29 4096\nreg 31 100\nreply 7\nblocks 5\n"
-REPORT = """unison 2
+REPORT = """unison 3
 function f
 model regs all slots 256 nodes 2000
 answer code
@@ -82,7 +82,7 @@ tree 1
 C
 end
 """
-INFEASIBLE = "unison 2\nfunction two\nmodel regs 1 slots 256 nodes 2000\nanswer infeasible\ntree 1\nC\nend\n"
+INFEASIBLE = "unison 3\nfunction two\nmodel regs 1 slots 256 nodes 2000\nanswer infeasible\ntree 1\nC\nend\n"
 NO_OPERATION = [("listing 3", "listing 4"), ("{ jumpr r31 }", "{ nop }\n{ jumpr r31 }")]
 LATER_RETURN = ("0 0 0 0 0 0 0 0 0 0 0 0 1 0 0 0", "0 0 0 0 0 0 0 0 0 0 0 0 2 0 0 0")
 LATER_END = ("0 2 0\ntree", "0 3 0\ntree")
@@ -100,7 +100,7 @@ def check(*changes):
 # Each row: its name, its words, its input, the status, and what its output begins with.
 ROWS = [
     ("alloc smallest", "alloc", SMALLEST, 0, REPORT),
-    ("alloc call", "alloc", CALL, 0, "unison 2\nfunction c\nmodel regs all slots 256 nodes 2000\nanswer code\ncost 5\n"),
+    ("alloc call", "alloc", CALL, 0, "unison 3\nfunction c\nmodel regs all slots 256 nodes 2000\nanswer code\ncost 5\n"),
     ("alloc two", "alloc --regs 1", TWO, 1, INFEASIBLE),
     ("run call", "run", CALL + START, 0, "returned 12\ncall h 5\n"),
     ("run call waits", "run", CALL + START.replace("reply 7\n", ""), 0, "waiting h 5\n"),

@@ -4,8 +4,9 @@ ghost use Rattle.un_problem.specs.Problems.{IsProblemOf};
 
 use std::alloc::Global;
 use un_drawn::drawn::{Form, put_drawn};
+use un_drawn::given::version_of;
 use un_ir::function::Function;
-use un_isa::table::hexagon;
+use un_isa::table::table_of;
 use un_model::model::Model;
 use un_outside::status::Status;
 use un_problem::problem::{default_options, model};
@@ -33,7 +34,8 @@ fn put_of_function(
     f: &Function,
     report: &[u8],
 ) -> Result<(), Status> {
-    match model(alloc, f, &hexagon(), &default_options()) {
+    let table = table_of(version_of(report));
+    match model(alloc, f, &table, &default_options()) {
         Ok(m) => put_both(alloc, out, f, &m, report),
         Err(_) => Err(Status::NoMemory),
     }

@@ -38,7 +38,7 @@ static EXAMPLES: [&str; 14] = [
 
 /// The names of reports that are drawn and explained: `NAME.report` has a function, a line `---` and a report on it, and `NAME.drawn` what
 /// is expected.
-static DRAWN: [&str; 4] = ["ack", "call", "keep", "total"];
+static DRAWN: [&str; 5] = ["ack", "call", "gcd", "keep", "total"];
 
 /// How many bytes are written at most.
 const ROOM: usize = 65536;

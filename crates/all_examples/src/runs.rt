@@ -14,7 +14,7 @@ use un_isa::memory::Memory;
 use un_isa::outcome::{End, Outcome};
 use un_isa::reg::{LINK, REGISTERS, STACK};
 use un_isa::start::{Reply, Start};
-use un_isa::table::hexagon;
+use un_isa::table::{LAST, hexagon, table_of};
 use un_lists::items::Items;
 use un_model::model::Model;
 use un_packet::code::Code;
@@ -216,7 +216,7 @@ fn wrong_of_model(
 
 /// The same of a function and the code that is made for it.
 fn wrong_of(alloc: Global, name: &[u8], f: &Function) -> Result<(usize, usize), NoMemory> {
-    let m = model(alloc, f, &hexagon(), &default_options())?;
+    let m = model(alloc, f, &table_of(LAST), &default_options())?;
     wrong_of_model(alloc, name, f, &m)
 }
 

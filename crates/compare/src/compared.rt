@@ -133,8 +133,8 @@ fn put_cost(out: &mut Vec<u8>, sum: &Sum) -> Result<(), NoMemory> {
 }
 
 /// Appends that a listing costs less than code of the subset can, where it does.
-fn put_below(out: &mut Vec<u8>, sum: &Sum, figures: &Figures) -> Result<(), NoMemory> {
-    if sum.uncounted > 0 || sum.cost >= figures.bound {
+fn put_below(out: &mut Vec<u8>, sum: &Sum, bound: u64) -> Result<(), NoMemory> {
+    if sum.uncounted > 0 || sum.cost >= bound {
         return Ok(());
     }
     put_text(
@@ -149,16 +149,17 @@ fn put_last(out: &mut Vec<u8>, sum: &Sum, figures: Option<Figures>) -> Result<()
         put_cost(out, sum)?;
         return put_text(out, b", there is no code here\n");
     };
-    put_below(out, sum, &figures)?;
+    put_below(out, sum, figures.bound.unwrap_or(0))?;
     put_cost(out, sum)?;
-    put_parts(
-        out,
-        &[
-            (b", best here ", figures.cost),
-            (b", no code of the subset costs less than ", figures.bound),
-        ],
-        b"\n",
-    )
+    put_parts(out, &[(b", best here ", figures.cost)], b"")?;
+    match figures.bound {
+        Some(bound) => put_parts(
+            out,
+            &[(b", no code of the subset costs less than ", bound)],
+            b"\n",
+        ),
+        None => put_text(out, b"\n"),
+    }
 }
 
 /// Appends a comparison of a listing with a function and its report: a row for each block, the instructions that are not of the subset, and what all cost.

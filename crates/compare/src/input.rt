@@ -5,7 +5,7 @@ use std::alloc::Global;
 use un_answers::answer::Answer;
 use un_base::memory_error::NoMemory;
 use un_foreign::listing::Listing;
-use un_foreign::plain::put_listing;
+use un_foreign::plain::{put_lines, put_listing};
 use un_foreign::reader::{Unread, read_listing};
 use un_foreign::starts::put_starts;
 use un_foreign::text::at_rule;
@@ -25,6 +25,8 @@ pub enum Asked {
     Comparison,
     /// The listing in the spelling that `alloc` prints.
     Plain,
+    /// For each line of that the line at which its packet begins in the listing.
+    Lines,
     /// Starts for the function, parted by lines `---`.
     Starts,
 }
@@ -91,6 +93,7 @@ fn put_asked(
     match asked {
         Asked::Comparison => put_compared(alloc, out, f, listing, report),
         Asked::Plain => put_listing(out, listing, f),
+        Asked::Lines => put_lines(out, listing),
         Asked::Starts => put_starts(out, f),
     }
 }

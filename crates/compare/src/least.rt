@@ -8,7 +8,7 @@ use un_ir::function::Function;
 use un_isa::facts::{Class, class_of};
 use un_isa::packet_counts::{Resource, places};
 use un_isa::reg::SLOTS;
-use un_isa::table::hexagon;
+use un_isa::table::{LAST, table_of};
 use un_lists::items::Items;
 use un_model::instructions::instruction;
 use un_model::model::{Arc, Model, Options};
@@ -136,7 +136,7 @@ pub fn least_packets(alloc: Global, f: &Function) -> Result<Items<u64>, NoMemory
         regs: None,
         slots: SLOTS,
     };
-    let m = model(alloc, f, &hexagon(), &options)?;
+    let m = model(alloc, f, &table_of(LAST), &options)?;
     let least = least_of_all(alloc, &m)?;
     Ok(least)
 }

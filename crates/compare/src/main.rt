@@ -1,6 +1,7 @@
 //! A program beside `unison`: it compares a listing with a function and its report. Standard input has the function, the report and the
 //! listing, parted by lines `---`; with the word `files` it compares those that a file of this name lists. For runs of both, `plain` prints
-//! the listing in the spelling that `alloc` prints, and `starts` prints starts for the function.
+//! the listing in the spelling that `alloc` prints, `lines` for each line of that where its packet begins in the listing, and `starts`
+//! prints starts for the function.
 #![tactic(auto)]
 
 mod compared;
@@ -69,6 +70,7 @@ fn asked_for(words: &[Word]) -> Option<Asked> {
     match words {
         [] => Some(Asked::Comparison),
         [word] if word.is(b"plain") => Some(Asked::Plain),
+        [word] if word.is(b"lines") => Some(Asked::Lines),
         [word] if word.is(b"starts") => Some(Asked::Starts),
         _ => None,
     }

@@ -10,13 +10,15 @@ use un_foreign::reader::{Unread, read_listing};
 use un_foreign::rows::packets_in;
 use un_foreign::text::{around, cut};
 use un_ir::function::Function;
+use un_isa::table::LAST;
 use un_lists::items::Items;
 
-/// A cost, and a bound.
+/// A cost, and a bound of what code of the subset costs.
 #[derive(Clone, Copy)]
 pub struct Figures {
     pub cost: u64,
-    pub bound: u64,
+    /// None where the report is older than the subset of today.
+    pub bound: Option<u64>,
 }
 
 /// The number behind the first line that begins with a word.
@@ -29,10 +31,24 @@ fn number_behind(report: &[u8], word: &[u8]) -> Option<u64> {
     None
 }
 
+/// Whether a report is of the last version.
+fn is_last(report: &[u8]) -> bool {
+    number_behind(report, b"unison ") == Some(u64::from(LAST))
+}
+
+/// The bound of what code of the subset costs that a report has; None where it has none.
+fn bound_in(report: &[u8]) -> Option<u64> {
+    if is_last(report) {
+        number_behind(report, b"bound ")
+    } else {
+        None
+    }
+}
+
 /// The cost and the bound of a report; None where it has no code.
 pub fn figures_in(report: &[u8]) -> Option<Figures> {
     let cost = number_behind(report, b"cost ")?;
-    let bound = number_behind(report, b"bound ")?;
+    let bound = bound_in(report);
     Some(Figures { cost, bound })
 }
 

@@ -6,7 +6,7 @@ use std::alloc::Global;
 use un_base::memory_error::NoMemory;
 use un_first::first::first;
 use un_ir::function::Function;
-use un_isa::table::hexagon;
+use un_isa::table::{LAST, table_of};
 use un_model::cost::cost;
 use un_model::model::Model;
 use un_problem::problem::{default_options, model};
@@ -69,6 +69,6 @@ pub fn costs_of(alloc: Global, text: &[u8]) -> Result<Option<Costs>, NoMemory> {
     let Ok(f) = read_function(alloc, text) else {
         return Ok(None);
     };
-    let m = model(alloc, &f, &hexagon(), &default_options())?;
+    let m = model(alloc, &f, &table_of(LAST), &default_options())?;
     costs_in(alloc, &f, &m)
 }

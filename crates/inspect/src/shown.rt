@@ -7,8 +7,9 @@ use crate::part::put_part;
 use crate::request::{Part, Request, Shown};
 use std::alloc::Global;
 use std::time::CpuClock;
+use un_drawn::given::version_of;
 use un_ir::function::Function;
-use un_isa::table::hexagon;
+use un_isa::table::table_of;
 use un_outside::outside::Source;
 use un_outside::status::Status;
 use un_outside::transfer::{ReadAll, read_all};
@@ -75,7 +76,8 @@ fn put_of(
 {
     let input = input_of(asked.part, text);
     let f = function(alloc, input.function)?;
-    put_part(rt, alloc, out, asked, &f, &hexagon(), input)
+    let table = table_of(version_of(input.rest));
+    put_part(rt, alloc, out, asked, &f, &table, input)
 }
 
 /// The bytes of a source.

@@ -130,6 +130,39 @@ cycles 2
 |frame 0\nblock e\n{ r29 = add(r29,#-8) }\n{ jumpr r31 }\n?text:3\
 |frame 0\nblock e\n{ r29 = add(r29,#0); jumpr r31 }\n?text:3\
 |frame 0\nblock e\n{ r0 = r1; jumpr r31 }\n\n?text:4\
+|# Jumps on fresh predicates, by a model of another hand.\
+|frame 0\nblock e\n{ p0 = cmp.gt(r0,#0); if (p0.new) jump t }\nblock t\n{ jumpr r31 }\n?text:0\
+|frame 0\nblock e\n{ p0 = cmp.gt(r0,#0); if (!p0.new) jump t }\nblock t\n{ jumpr r31 }\n?text:0\
+|frame 0\nblock e\n{ p0 = cmp.eq(r0,r1); if (p0.new) jump t }\nblock t\n{ jumpr r31 }\n?text:0\
+|frame 0\nblock e\n{ p0 = cmp.eq(r0,#5); if (p0.new) jump t }\nblock t\n{ jumpr r31 }\n?text:0\
+|frame 0\nblock e\n{ p0 = cmp.gt(r0,r1); if (p1.new) jump t }\nblock t\n{ jumpr r31 }\n?text:3\
+|frame 0\nblock e\n{ if (p0.new) jump t }\nblock t\n{ jumpr r31 }\n?text:3\
+|frame 0\nblock e\n{ r0 = p0; if (p0.new) jump t }\nblock t\n{ jumpr r31 }\n?text:3\
+|frame 0\nblock e\n{ p0 = cmp.gt(r0,#0); p1 = cmp.gt(r1,#0); if (p1.new) jump t }\nblock t\n{ jumpr r31 }\n?text:0\
+|frame 0\nblock e\n{ p0 = cmp.gt(r0,#0); if (p0.new) jump t; jump t }\nblock t\n{ jumpr r31 }\n?text:3\
+|frame 0\nblock e\n{ p0 = cmp.gt(r0,#0); if (p0.new) jump t; if (!p0.new) jump t }\nblock t\n{ jumpr r31 }\n?text:3\
+|frame 0\nblock e\n{ p0 = cmp.gt(r0,#0); if (p0) jump t }\nblock t\n{ jumpr r31 }\n?text:0\
+|frame 0\nblock e\n{ p0 = cmp.gt(r0,#0); if (p0.new) jump e }\nblock t\n{ jumpr r31 }\n?text:0\
+|frame 0\nblock e\n{ p0 = cmp.gt(r0,#0); if (p4.new) jump t }\nblock t\n{ jumpr r31 }\n?text:3\
+|frame 0\nblock e\n{ p0 = cmp.gt(r0,#0); if ( p0.new) jump t }\nblock t\n{ jumpr r31 }\n?text:3\
+|frame 0\nblock e\n{ p0 = cmp.gt(r0,#0); if (p0 .new) jump t }\nblock t\n{ jumpr r31 }\n?text:3\
+|frame 0\nblock e\n{ p0 = cmp.gt(r0,#0); if (!p0.new)jump t }\nblock t\n{ jumpr r31 }\n?text:3\
+|frame 0\nblock e\n{ p0 = cmp.gt(r0,#0); jump.new t }\nblock t\n{ jumpr r31 }\n?text:3\
+|frame 0\nblock e\n{ p0 = cmp.gt(r0,#0); if (p0.new) jump t; r1 = r2; r2 = r1; r3 = r4 }\nblock t\n{ jumpr r31 }\n?text:3\
+|frame 0\nblock e\n{ r5 = mpyi(r1,r2); p0 = cmp.gt(r0,#0); if (p0.new) jump t }\nblock t\n{ jumpr r31 }\n?text:0\
+|frame 0\nblock e\n{ r5 = memw(r1+#0); r6 = memw(r2+#0); p0 = cmp.gt(r0,#0); if (p0.new) jump t }\nblock t\n{ jumpr r31 }\n?text:0\
+|frame 0\nblock e\n{ p0 = cmp.gt(r0,#0); call f(r0); if (p0.new) jump t }\nblock t\n{ jumpr r31 }\n?text:3\
+|frame 0\nblock e\n{ p0 = cmp.gt(r0,#0); call f() }\nblock t\n{ jumpr r31 }\n?text:3\
+|frame 0\nblock e\n{ p0 = cmp.gt(r0,#512); if (p0.new) jump t }\nblock t\n{ jumpr r31 }\n?text:3\
+|frame 0\nblock e\n{ p0 = cmp.gt(r29,#0); if (p0.new) jump t }\nblock t\n{ jumpr r31 }\n?text:0\
+|frame 0\nblock e\n{ p0 = r1; p1 = cmp.gt(r0,#0); if (p1.new) jump t }\nblock t\n{ jumpr r31 }\n?text:0\
+|frame 0\nblock e\n{ p0 = cmp.gt(r0,#0) }\n{ if (p0.new) jump t }\nblock t\n{ jumpr r31 }\n?text:4\
+|frame 0\nblock e\n{ p0 = cmp.gt(r0,#0); if (p0.new) jump t }\n?text:3\
+|frame 0\nblock e\nblock t\n{ jumpr r31 }\n{ p0 = cmp.gt(r0,#0); if (p0.new) jump t }\n?text:4\
+|frame 0\nblock e\n{ p0 = cmp.gt(r0,#0); if (p0.new) jump t }\nblock t\n?text:4\
+|frame 8\nblock e\n{ r29 = add(r29,#-8); p0 = cmp.gt(r0,#0); if (p0.new) jump t }\nblock t\n{ jumpr r31 }\n?text:0\
+|frame 8\nblock e\n{ memw(r29+#0) = r1; p0 = cmp.gt(r0,#0); if (p0.new) jump t }\nblock t\n{ jumpr r31 }\n?text:0\
+|frame 1032\nblock e\n{ p0 = cmp.gt(r0,#0); if (p0.new) jump t }\nblock t\n{ jumpr r31 }\n?text:1\
 |# Listings, and what comes out of their runs.
 |frame 8
 block e

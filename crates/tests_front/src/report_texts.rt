@@ -87,7 +87,7 @@ static ROWS: &[u8] =
 |# What a version may have, by reports with one line in place of another.\
 |unison 1\nfunction f\nmodel regs all slots 64 nodes 2000\nanswer code\ncost 1\nbound 1\nlisting 3\nframe 0\nblock e\n{ jumpr r31 }\nsolution 124\n16 17 18 19 20 21 22 23 24 25 26 27 31 0 0 0\n0 0 0 0 0 0 0 0 0 0 0 0 0 0 0 0\n0 0 0 0 0 0 0 0 0 0 0 0 0 0 0 0\n0 0 0 0 0 0 0 0 0 0 0 0 1 0 0 0\n0 0 0 0 0 0 0 0 0 0 0 0 0 0 0 0\n0 0 0 0 0 0 0 0 0 0 0 0 0 0 0 0\n0 0 0 0 0 0 0 0 0 0 0 0 0 0 0 0\n0 0 0 0 0 0 0 0 0 0 2 0\ntree 1\nC\nend\n?same:yes\
 |&?line 1 unison 0:bad 1\
-|&?line 1 unison 3:bad 1\
+|&?line 1 unison 3:yes\
 |&?line 1 unison 01:bad 1\
 |&?line 1 unison 02:bad 1\
 |&?line 1 unison 257:bad 1\
@@ -118,7 +118,7 @@ static ROWS: &[u8] =
 |&?line 21 P -:bad 21\
 |unison 2\nfunction f\nmodel regs all slots 256 nodes 2000\nanswer code\ncost 1\nbound 1\nlisting 3\nframe 0\nblock e\n{ jumpr r31 }\nsolution 124\n16 17 18 19 20 21 22 23 24 25 26 27 31 0 0 0\n0 0 0 0 0 0 0 0 0 0 0 0 0 0 0 0\n0 0 0 0 0 0 0 0 0 0 0 0 0 0 0 0\n0 0 0 0 0 0 0 0 0 0 0 0 1 0 0 0\n0 0 0 0 0 0 0 0 0 0 0 0 0 0 0 0\n0 0 0 0 0 0 0 0 0 0 0 0 0 0 0 0\n0 0 0 0 0 0 0 0 0 0 0 0 0 0 0 0\n0 0 0 0 0 0 0 0 0 0 2 0\ntree 1\nC\nend\n?same:yes\
 |&?line 1 unison 0:bad 1\
-|&?line 1 unison 3:bad 1\
+|&?line 1 unison 3:yes\
 |&?line 1 unison 01:bad 1\
 |&?line 1 unison 02:bad 1\
 |&?line 1 unison 257:bad 1\

@@ -55,6 +55,7 @@ KEEPING = record {
   args = HEXAGON.args;
   result = HEXAGON.result;
   saved = 0x1FFF_8000;
+  fresh = HEXAGON.fresh;
 }
 
 pub keeping_fit : IsFit KEEPING
@@ -70,6 +71,7 @@ keeping_fit = record {
   clobbered = λ r h. agree_same (in_mask KEEPING.clobbered r) (is_clobbered r && not (in_mask KEEPING.saved r))
       (below_holds (λ r. agree (in_mask KEEPING.clobbered r) (is_clobbered r && not (in_mask KEEPING.saved r))) REGISTERS refl r h);
   no_others = (lit< tt, lit< tt);
+  quick_compares = hexagon_fit.quick_compares;
 }
 
 -- a product takes two cycles, and all else one
@@ -86,6 +88,7 @@ QUICK = record {
   args = HEXAGON.args;
   result = HEXAGON.result;
   saved = HEXAGON.saved;
+  fresh = HEXAGON.fresh;
 }
 
 quick_by : (b : Bool) (n : ℕ) → so b (nat_eq n 1) ≡ true → OnTrue b (n ≡ 1)
@@ -106,4 +109,5 @@ quick_fit = record {
   saved = hexagon_fit.saved;
   clobbered = hexagon_fit.clobbered;
   no_others = hexagon_fit.no_others;
+  quick_compares = λ f op h. absurd (cc f);
 }

@@ -35,17 +35,17 @@ static ROWS: &[u8] =
 |&?alloc;1 65536 23:read fault>>read fault\n\
 |&?alloc;1 65536 24:read fault>>read fault\n\
 |&?alloc;1 65536 25:read fault>>read fault\n\
-|&?alloc;1 65536 26:done>unison 2\nfunction f\n...\
+|&?alloc;1 65536 26:done>unison 3\nfunction f\n...\
 |# An `err` that fails at its first call changes no status.\
-|&?alloc;4096 65536 - - 0:done>unison 2\nfunction f\n...\
-|&?alloc --regs 5 --nodes 1;4096 65536 - - 0:spent>unison 2\nfunction f\n...\
+|&?alloc;4096 65536 - - 0:done>unison 3\nfunction f\n...\
+|&?alloc --regs 5 --nodes 1;4096 65536 - - 0:spent>unison 3\nfunction f\n...\
 |&?alloc x;4096 65536 - - 0:usage 1>>\
 |&?alloc;1 65536 25 - 0:read fault>>\
 |&?alloc;64 65536 - 0 0:write fault>>\
 |&?run;4096 65536 - - 0:bad 1>>\
 |9 cost 2?=check;4096 65536 - - 0:no>no cost\n>\
 |5 -?=check;4096 65536 - - 0:bad 1>>\
-|func two\nblock e freq 1\n  %a = imm #1\n  %b = imm #2\n  %c = add %a, %b\n  ret %c\n?alloc --regs 1;4096 65536 - - 0:infeasible>unison 2\nfunction two\n...\
+|func two\nblock e freq 1\n  %a = imm #1\n  %b = imm #2\n  %c = add %a, %b\n  ret %c\n?alloc --regs 1;4096 65536 - - 0:infeasible>unison 3\nfunction two\n...\
 |func f\n?alloc;4096 65536 - - 0:fault 2 6>>\
 |# A report that is cut behind each of its lines.\
 |5 -?=check:bad 1>>bad report: line 1\n\

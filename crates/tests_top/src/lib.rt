@@ -11,6 +11,8 @@ mod ends;
 #[cfg(test)]
 mod firsts;
 #[cfg(test)]
+mod fresh;
+#[cfg(test)]
 mod hostile;
 #[cfg(test)]
 mod improvements;

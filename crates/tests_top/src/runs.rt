@@ -17,7 +17,7 @@ static RUNS: &[u8] = b"# The smallest function, by pieces of any size and in ano
 |func f
 block e freq 1
   ret
-?alloc:done>unison 2
+?alloc:done>unison 3
 function f
 model regs all slots 256 nodes 2000
 answer code
@@ -40,7 +40,7 @@ tree 1
 C
 end
 >\
-|&?alloc;1:done>unison 2
+|&?alloc;1:done>unison 3
 function f
 model regs all slots 256 nodes 2000
 answer code
@@ -63,7 +63,7 @@ tree 1
 C
 end
 >\
-|; the smallest\r\n\r\nfunc f ; no parameter\r\n\tblock e freq 001 ; once\r\n\r\nret ; at once?alloc:done>unison 2
+|; the smallest\r\n\r\nfunc f ; no parameter\r\n\tblock e freq 001 ; once\r\n\r\nret ; at once?alloc:done>unison 3
 function f
 model regs all slots 256 nodes 2000
 answer code
@@ -91,7 +91,7 @@ end
 block e freq 10
   %c = add %a, %b
   ret %c
-?alloc:done>unison 2
+?alloc:done>unison 3
 function g
 model regs all slots 256 nodes 2000
 answer code
@@ -118,7 +118,7 @@ block loop freq 100
   if $c jump loop
 block exit freq 1
   ret %s
-?alloc:done>unison 2
+?alloc:done>unison 3
 function dot
 model regs all slots 256 nodes 2000
 answer code
@@ -131,7 +131,7 @@ block a freq 3
 block b freq 7
 block c freq 2
   ret
-?alloc:done>unison 2
+?alloc:done>unison 3
 function e
 model regs all slots 256 nodes 2000
 answer code
@@ -157,7 +157,7 @@ block e freq 1
   %r = add %p, %q
   %t = add %r, %e
   ret %t
-?alloc:done>unison 2
+?alloc:done>unison 3
 function s
 model regs all slots 256 nodes 2000
 answer code
@@ -172,7 +172,7 @@ block e freq 1
   call h %a
   %r = mux $p, %a, %b
   ret %r
-?alloc --nodes 1:done>unison 2
+?alloc --nodes 1:done>unison 3
 function q
 model regs all slots 256 nodes 1
 answer code
@@ -221,7 +221,7 @@ block e freq 1
   %b = imm #2
   %c = add %a, %b
   ret %c
-?alloc --regs 1:infeasible>unison 2
+?alloc --regs 1:infeasible>unison 3
 function two
 model regs 1 slots 256 nodes 2000
 answer infeasible
@@ -229,7 +229,7 @@ tree 1
 C
 end
 >\
-|&?alloc --nodes 1 --regs 1:infeasible>unison 2
+|&?alloc --nodes 1 --regs 1:infeasible>unison 3
 function two
 model regs 1 slots 256 nodes 1
 answer infeasible
@@ -242,7 +242,7 @@ end
 block e freq 1
   call h
   ret
-?alloc --slots 0:infeasible>unison 2
+?alloc --slots 0:infeasible>unison 3
 function k
 model regs all slots 0 nodes 2000
 answer infeasible
@@ -254,7 +254,7 @@ end
 |func f
 block e freq 1
   ret
-?alloc --regs 5 --nodes 1:spent>unison 2
+?alloc --regs 5 --nodes 1:spent>unison 3
 function f
 model regs 5 slots 256 nodes 1
 answer spent
@@ -262,7 +262,7 @@ tree 1
 O
 end
 >\
-|&?alloc --regs 29 --nodes 1:done>unison 2
+|&?alloc --regs 29 --nodes 1:done>unison 3
 function f
 model regs 29 slots 256 nodes 1
 answer code
@@ -278,7 +278,7 @@ block e
 { r29 = add(r29,#8) }
 { jumpr r31 }
 ...\
-|&?alloc --nodes 1:done>unison 2
+|&?alloc --nodes 1:done>unison 3
 function f
 model regs all slots 256 nodes 1
 answer code
@@ -331,7 +331,7 @@ block b14 freq 1000000
   jump b15
 block b15 freq 1000000
   ret
-?alloc:done>unison 2
+?alloc:done>unison 3
 function f
 model regs all slots 256 nodes 2000
 answer code
@@ -378,11 +378,11 @@ block e freq 1
 block e freq 1
   ret
 ?alloc;64 65536 - 0:write fault>>write fault
-|&?alloc;64 65536 - 1:write fault>unison 2
+|&?alloc;64 65536 - 1:write fault>unison 3
 function f
 model regs all slots 256 nodes 2000
 answer c>write fault
-|&?alloc;64 65536 - 2:write fault>unison 2
+|&?alloc;64 65536 - 2:write fault>unison 3
 function f
 model regs all slots 256 nodes 2000
 answer code
@@ -393,7 +393,7 @@ frame 0
 block e
 { jumpr r31 }
 solut>write fault
-|&?alloc;64 65536 - 3:write fault>unison 2
+|&?alloc;64 65536 - 3:write fault>unison 3
 function f
 model regs all slots 256 nodes 2000
 answer code
@@ -410,7 +410,7 @@ solution 124
 |func f
 block e freq 1
   ret
-?alloc;4096 10:write fault>unison 2
+?alloc;4096 10:write fault>unison 3
 f>write fault
 |?alloc;4096 65536 - - 0:fault 1 6>>";
 

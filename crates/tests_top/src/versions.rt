@@ -69,7 +69,7 @@ tree 1
 O
 end";
 
-/// A function with a jump, and a report of a version that there is not, whose bound is another than those of versions 1 and 2.
+/// A function with a jump, and a report of version 3, whose bound is another than those of versions 1 and 2.
 static JUMPS: &[u8] = b"func n %a
 block e freq 1
   $p = cmpgti %a, #0
@@ -245,7 +245,7 @@ static VERSIONS: &[u8] = b"# Rows of each input in turn.\
 |5 unison 2\n12 frame 1024\n14 { memw(r29+#1020) = r16 }?2check:bad 13>>bad report: line 13\n\
 |5 unison 2\n14 { memw(r29+#4092) = r16 }?2check:no>no listing\n>\
 |5 unison 2\n7 model regs 29 slots 256 nodes 200000?2check:no>no spent\n>\
-|?3check:bad 1>>bad report: line 1\n\
+|?3check:done>yes code cost 17 bound 3\n>\
 |10 unison 0?3check:bad 1>>bad report: line 1\n\
 |10 unison 0\n12 model regs all slots 63 nodes 1?3check:bad 1>>bad report: line 1\n\
 |10 unison 0\n12 model regs all slots 64 nodes 1?3check:bad 1>>bad report: line 1\n\
@@ -302,7 +302,40 @@ static VERSIONS: &[u8] = b"# Rows of each input in turn.\
 |7 unison 1\n16 { memw(r29+#4092) = r16 }?4check:no>no listing\n>\
 |7 unison 1\n9 model regs 29 slots 64 nodes 200000?4check:no>no spent\n>\
 |7 unison 2\n40 tree 200000\n41 O^200000?4check:no>no short\n>\
-|7 unison 2\n14 frame 1024\n16 { memw(r29+#1020) = r16 }?4check:bad 21>>bad report: line 21\n";
+|7 unison 2\n14 frame 1024\n16 { memw(r29+#1020) = r16 }?4check:bad 21>>bad report: line 21\n\
+|# Version 3: jumps may test what their packets write.\
+|5 unison 3\n7 model regs all slots 0 nodes 1?1check:no>no solution 1\n>\
+|5 unison 3\n7 model regs all slots 63 nodes 1?1check:done>yes code cost 5 bound 1\n>\
+|5 unison 3\n7 model regs all slots 65 nodes 1?1check:done>yes code cost 5 bound 1\n>\
+|5 unison 3\n7 model regs all slots 256 nodes 1?1check:done>yes code cost 5 bound 1\n>\
+|5 unison 3\n29 B 4294967295 4294967295?1check:no>no strict 0\n>\
+|5 unison 3\n7 model regs all slots 64 nodes 3\n28 tree 3\n29 B 123 0/O/O?1check:done>yes code cost 5 bound 1\n>\
+|5 unison 3\n28 tree 200000\n29 O^200000?1check:no>no short\n>\
+|5 unison 3\n12 frame 1024\n14 { memw(r29+#1020) = r16 }?1check:bad 13>>bad report: line 13\n\
+|5 unison 3\n14 { memw(r29+#4092) = r16 }?1check:no>no listing\n>\
+|5 unison 3\n7 model regs 29 slots 64 nodes 200000?1check:no>no spent\n>\
+|5 unison 3\n7 model regs all slots 0 nodes 1?2check:no>no solution 1\n>\
+|5 unison 3\n7 model regs all slots 63 nodes 1?2check:done>yes code cost 5 bound 1\n>\
+|5 unison 3\n7 model regs all slots 64 nodes 1?2check:done>yes code cost 5 bound 1\n>\
+|5 unison 3\n7 model regs all slots 255 nodes 1?2check:done>yes code cost 5 bound 1\n>\
+|5 unison 3\n29 B 0 0?2check:no>no strict 0\n>\
+|5 unison 3\n29 B 4294967295 4294967295?2check:no>no strict 0\n>\
+|10 unison 3\n12 model regs all slots 0 nodes 1?3check:no>no solution 1\n>\
+|10 unison 3\n12 model regs all slots 64 nodes 1?3check:done>yes code cost 17 bound 3\n>\
+|10 unison 3\n12 model regs all slots 65 nodes 1?3check:done>yes code cost 17 bound 3\n>\
+|10 unison 3\n66 B 0 0?3check:no>no strict 0\n>\
+|10 unison 3\n66 B 4294967295 4294967295?3check:no>no strict 0\n>\
+|10 unison 3\n12 model regs all slots 256 nodes 3\n65 tree 3\n66 B 413 0/O/O?3check:done>yes code cost 17 bound 3\n>\
+|7 unison 3\n9 model regs all slots 0 nodes 1?4check:no>no solution 1\n>\
+|7 unison 3\n9 model regs all slots 63 nodes 1?4check:done>yes code cost 13 bound 2\n>\
+|7 unison 3\n9 model regs all slots 65 nodes 1?4check:done>yes code cost 13 bound 2\n>\
+|7 unison 3\n9 model regs all slots 256 nodes 1?4check:done>yes code cost 13 bound 2\n>\
+|7 unison 3\n41 B 4294967295 4294967295?4check:no>no strict 0\n>\
+|7 unison 3\n9 model regs all slots 64 nodes 3\n40 tree 3\n41 B 157 0/O/O?4check:done>yes code cost 13 bound 2\n>\
+|7 unison 3\n40 tree 200000\n41 O^200000?4check:no>no short\n>\
+|7 unison 3\n14 frame 1024\n16 { memw(r29+#1020) = r16 }?4check:bad 21>>bad report: line 21\n\
+|7 unison 3\n16 { memw(r29+#4092) = r16 }?4check:no>no listing\n>\
+|7 unison 3\n9 model regs 29 slots 64 nodes 200000?4check:no>no spent\n>";
 
 /// Appends what the check of an input leaves, with lines of it changed.
 pub(crate) fn put_version(

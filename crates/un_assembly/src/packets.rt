@@ -1,4 +1,5 @@
-//! Packets as the assembler spells them: as in a listing, but a call has no argument list, and a jump's label is the function's own.
+//! Packets as the assembler spells them: as in a listing, but a call has no argument list, a jump's label is the function's own, and a
+//! jump that tests what its own packet writes says that it is expected not to be taken.
 
 use std::alloc::Global;
 use un_base::memory_error::NoMemory;
@@ -66,10 +67,22 @@ fn put_jump(out: &mut Vec<u8>, function: &[u8], halves: Halves<'_>) -> Result<()
     put_label(out, function, halves.behind)
 }
 
+/// Appends the text of a jump that tests what its own packet writes, with the hint that the assembler asks for; `halves` has the jump
+/// first in its second part.
+fn put_fresh_jump(out: &mut Vec<u8>, function: &[u8], halves: Halves<'_>) -> Result<(), NoMemory> {
+    put_text(out, halves.front)?;
+    put_text(out, b"jump:nt ")?;
+    let label = parted(halves.behind, b"jump ".len()).behind;
+    put_label(out, function, label)
+}
+
 /// Appends an instruction of a listing, with what stands around it there.
 fn put_instruction(out: &mut Vec<u8>, function: &[u8], text: &[u8]) -> Result<(), NoMemory> {
     if let Some(halves) = parted_behind(text, b"call ") {
         return put_call(out, halves);
+    }
+    if let Some(halves) = parted_behind(text, b".new) ") {
+        return put_fresh_jump(out, function, halves);
     }
     match parted_behind(text, b"jump ") {
         Some(halves) => put_jump(out, function, halves),

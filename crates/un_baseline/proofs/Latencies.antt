@@ -38,7 +38,7 @@ use Rattle.un_ir.proofs.NameBounds.{at_all}
 use Rattle.un_model.specs.declared.schedule.Issue.{Issue}
 use Rattle.un_model.specs.declared.schedule.Read.{Read}
 use Rattle.un_model.specs.declared.schedule.LiveRange.{LiveRange}
-use Rattle.un_model.proofs.Gaps.{gap_latency}
+use Rattle.un_model.proofs.Gaps.{gap_within}
 use Rattle.un_model.specs.Instructions.{copy_of, space_read, space_given, transfer_of, instruction_of, latency_by}
 use Rattle.un_model.specs.Pairs.{pairs_from}
 use Rattle.un_model.proofs.Transfers.{transfer_leaves}
@@ -393,6 +393,10 @@ never_both reg a b = let e : R ≡ M = sym a ∙ b in cc e
 abbrev nowhere : TempId
 nowhere = record { 0 = 0 }
 
+-- a user that waits for a latency leaves a shorter gap too
+sooner : (from gap latency cycle : ℕ) → gap ≤ latency → from + latency ≤ cycle → from + gap ≤ cycle
+sooner from gap latency cycle short late = omega (arith, short, late)
+
 past_end : {A : Type 0} (xs : List A) (c : ℕ) → length xs ≤ c → slice_get xs c ≡ None
 past_end [] c le = refl
 past_end (x ∷ xs) zero le = absurd (omega arith)
@@ -438,7 +442,7 @@ module _ (e : Ext) (fit : IsFit e.table) (ranges : List LiveRange) (reads : List
       begun : LeavesGap (latency_gap e.table) read (slice_get ranges 0)
       begun = subst (LeavesGap (latency_gap e.table) read) (sym begins.at) (λ here.
           let l : latency_by e.table begins.range.instr ≡ 1 = ap (latency_by e.table) begins.none in
-          let g = gap_latency e.table begins.range.instr read.instr in
+          let g = gap_within e.table begins.range.instr read.instr in
           let z = begins.from in
           let p = used_after e.table fit first times.now times.left plan.end (first_positive e.table entry) times.entered_by times.now_left
           times.now_end user (at_all (IsTimed e.table first times.now times.left plan.end) list k user timed user_at) is_used in
@@ -460,7 +464,8 @@ module _ (e : Ext) (fit : IsFit e.table) (ranges : List LiveRange) (reads : List
           let in_space : ReadsInSpace read (Some h) = subst (ReadsInSpace read) range.there space in
           let is_given : IsGivenInSpace h = at_all IsGivenInSpace ranges y.0 h given range.there in
           subst (LeavesGap (latency_gap e.table) read) (sym range.there) (λ here.
-          subst (λ (n : ℕ). h.from + n ≤ read.cycle) (sym (gap_latency e.table h.instr read.instr)) (
+          sooner h.from (latency_gap e.table h.instr read.instr) (latency_by e.table h.instr) read.cycle
+          (gap_within e.table h.instr read.instr) (
           waits e.table fit first times.now times.left plan.end (first_positive e.table entry) times.entered_by times.now_left
           times.now_end i
           user (at_all (IsTimed e.table first times.now times.left plan.end) list d.place i timed at_i)

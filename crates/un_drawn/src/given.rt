@@ -1,7 +1,10 @@
 //! What stands behind a function: a report, or values alone.
 
+ghost use Rattle.un_isa.specs.Versions.{IsVersion};
+
 use un_base::decimal::read_decimal;
 use un_base::lines::lines;
+use un_isa::table::LAST;
 
 /// What stands behind a function for a drawing.
 #[derive(Clone, Copy)]
@@ -74,5 +77,18 @@ pub fn read_given(text: &[u8]) -> Given<'_> {
         before: marks.before,
         bound: marks.bound,
         open: marks.open,
+    }
+}
+
+/// The version of the report that a text is, by its first line; the last one where the text is none.
+pub fn version_of(text: &[u8]) -> u8
+    ensures { IsVersion result }
+{
+    if text.starts_with(b"unison 1") {
+        1
+    } else if text.starts_with(b"unison 2") {
+        2
+    } else {
+        LAST
     }
 }

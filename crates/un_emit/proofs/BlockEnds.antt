@@ -23,11 +23,11 @@ use Rattle.un_ir.specs.declared.extended.Ext.{Ext}
 use Rattle.un_ir.specs.Extended.{Want, wants_of, is_end, IsGoodKind, IsSourceOp}
 use Rattle.un_ir.specs.Linear.{Values, World, value_of, out_operands, Ending, ending_of, is_out}
 use Rattle.un_model.specs.declared.model.Options.{Options}
-use Rattle.un_model.specs.Emission.{label_of, instr_if, instr_by, frame_of, operand_registers, result_register}
+use Rattle.un_model.specs.Emission.{label_of, instr_if, instr_by, frame_of, operand_registers, result_register, is_beside, emitted_by}
 use Rattle.un_model.specs.Instructions.{instruction_of, transfer_of as transfer_op_of, frame_instr}
 use Rattle.un_model.proofs.Transfers.{transfer_leaves, copy_copies}
 use Rattle.un_ir.specs.Kinds.{is_delimiter}
-use Rattle.un_model.specs.Schedules.{cycle_by, value_by, instr_of}
+use Rattle.un_model.specs.Schedules.{cycle_by, value_by, instr_of, schedule_of}
 use Rattle.un_model.specs.Variables.{model_of, var_at, ops_count}
 use Rattle.un_packet.specs.Step.{PacketState}
 use Rattle.un_simulation.specs.Simulation.{as_held, held_at}
@@ -38,7 +38,9 @@ use Rattle.un_emit.proofs.Cycles.{At, first_read}
 use Rattle.un_model.proofs.Placed.{Placed, vars_of, issue_at, end_of, region_placed}
 use Rattle.un_model.proofs.PlacedSchedules.{all, range_at}
 use Rattle.un_model.proofs.Readings.{Solved, placed_good, Reading, reading, waited_latency}
+use Rattle.un_model.proofs.Gaps.{is_branch_in, no_branch}
 use Rattle.un_emit.proofs.JobDeeds.{temps_of, active_in}
+use Rattle.un_emit.proofs.Own.{own_op, own_by, transfer_alike}
 use Rattle.un_emit.proofs.BlockJobs.{InRegion, IsJob, job_from, some_active}
 use Rattle.un_emit.proofs.BlockTimed.{its_end, its_block, own_end, own_jobs, block_timed, has_job, job_op}
 use Rattle.un_emit.proofs.Places.{words, placing}
@@ -133,7 +135,9 @@ module _ (e : Ext) (o : Options) (values : List ℕ) (h : Solved e o values) (k 
         let temps = timed.temps in
         let actv = active_in e o values h n k g.active there in
         let quick = temps.quick n actv in
-        let rdy = waited_latency e o values h p i x want g in
+        let old = ap (λ (y : ExtKind). is_branch_in (instruction_of y (value_by values (vars_of p).instr))) out.kind in
+        let rdy = waited_latency e o values h p i x want g
+        (no_branch e.table (range_at e o values n).instr (issue_at values p).instr old) in
         let lst = g.last in
         let stands : Stands (temps_of e o values h k) n (the_end - 1) =
         record { active = actv; begun = omega (arith, quick, rdy, cyc); held = omega (arith, lst, cyc, le) } in
@@ -214,16 +218,18 @@ module _ (e : Ext) (o : Options) (values : List ℕ) (h : Solved e o values) (k 
   pub data EndJob : Type 0 where
     no_job : transfer_of jobs ≡ None → (let x = ending_of block.ops in x.term ≡ Fall) → EndJob
     one_job : (p : Placed) (j : Job) (term : Term) → Member p own_ops → IsJob e o values h p j → transfer_of jobs ≡ Some j
-        → p.op.kind ≡ End term → transfer_op_of term ≡ Some j.instr.op
+        → p.op.kind ≡ End term → transfer_op_of term ≡ Some (own_op j.instr.op)
         → ending_of block.ops ≡ record { term = term; operands = p.op.operands } → EndJob
 
   none_transfers : ((p : Placed) (term : Term) → Member p own_ops → p.op.kind ≡ End term → term ≡ Fall) → transfer_of jobs ≡ None
   none_transfers f = find_none (λ (j : Job). is_transfer j.instr.op) jobs
       (each_of (λ (j : Job). is_transfer j.instr.op ≡ false) jobs (λ j m. is_false (is_transfer j.instr.op) (λ t.
       let x = job_from e o values h own_ops j m in
-      let y = transfer_kind x.0 j.instr.op x.1 (job_op e o values h x.0 j x.2) t in
+      let kind = (let p = x.0 in p.op.kind) in
+      let own = own_by kind j.instr.op in
+      let y = transfer_kind x.0 own x.1 (job_op e o values h x.0 j x.2) (transfer_alike kind j.instr.op ∙ t) in
       let z = f x.0 y.0 x.1 y.1 in
-      let g : None ≡ Some j.instr.op = ap transfer_op_of (sym z) ∙ y.2 in absurd (cc g))))
+      let g : None ≡ Some own = ap transfer_op_of (sym z) ∙ y.2 in absurd (cc g))))
 
   pub end_job : EndJob
   end_job = let ps = parts e o values h k block r at in by_end (ends_by block.ops ps.0 ps.1)
@@ -247,10 +253,12 @@ module _ (e : Ext) (o : Options) (values : List ℕ) (h : Solved e o values) (k 
               let act = some_active e o values h p tr ins in
               let j = has_job e o values h (words e o values h) (placing e o values h) k block r p z.1 act
               (λ y. let g : End term ≡ In = sym kp ∙ y in absurd (cc g)) (λ y. let g : End term ≡ Out = sym kp ∙ y in absurd (cc g)) in
-              let jo : Some j.0.instr.op ≡ Some tr = sym (job_op e o values h p j.0 j.2) ∙ ins in
-              let jo' : j.0.instr.op ≡ tr = cc jo in
-              let t : is_transfer j.0.instr.op ≡ true = ap is_transfer jo' ∙ transfer_leaves term tr s in
-              one_job p j.0 term z.1 j.2 (first j.0 j.1 t (transfer_of jobs) refl) kp (s ∙ ap Some (sym jo'))
+              let jo : Some (own_by p.op.kind j.0.instr.op) ≡ Some tr = sym (job_op e o values h p j.0 j.2) ∙ ins in
+              let jo' : own_by p.op.kind j.0.instr.op ≡ tr = cc jo in
+              let t : is_transfer j.0.instr.op ≡ true =
+              sym (transfer_alike p.op.kind j.0.instr.op) ∙ ap is_transfer jo' ∙ transfer_leaves term tr s in
+              let own : own_op j.0.instr.op ≡ tr = ap (λ (y : ExtKind). own_by y j.0.instr.op) (sym kp) ∙ jo' in
+              one_job p j.0 term z.1 j.2 (first j.0 j.1 t (transfer_of jobs) refl) kp (s ∙ ap Some (sym own))
               (q ∙ ap (λ (x : ExtOp). let y : Ending = record { term = term; operands = x.operands } in y) (sym z.2))
             where
               first : (j : Job) → Member j jobs → is_transfer j.instr.op ≡ true → (x : Option Job) → transfer_of jobs ≡ x
@@ -281,7 +289,8 @@ module _ (e : Ext) (o : Options) (values : List ℕ) (h : Solved e o values) (k 
           → (let i = g.instr in i.label ≡ label_of e.blocks term)
       go None s = absurd (cc s)
       go (Some op) s =
-          let made = ap (λ (y : ExtKind). instr_by e.blocks (frame_of (model_of e o) values) y op
+          let b = is_beside (schedule_of (model_of e o) values).ranges values p.op (vars_of p) in
+          let made = ap (λ (y : ExtKind). instr_by e.blocks (frame_of (model_of e o) values) y (emitted_by b y op)
           (operand_registers (model_of e o) values p.op (vars_of p)) (result_register (model_of e o) values p.op)) (sym q) ∙ s in
           let z = ap (λ (x : Option Instr). option_map (λ (y : Instr). y.label) x) made in sym (cc z)
 
@@ -294,5 +303,5 @@ module _ (e : Ext) (o : Options) (values : List ℕ) (h : Solved e o values) (k 
       let b = (of_all e o values h k block r p m).1 in
       ap (λ (x : Job). first_read v x) g.is
       ∙ ap (λ xs. slice_index xs 0) (args_of e o values h v p (of_all e o values h k block r p m).0
-      (let i = g.instr in some_active e o values h p i.op g.issues)
+      (let i = g.instr in some_active e o values h p (own_by p.op.kind i.op) g.issues)
       (subst (λ n. Carries e o values h v n) (sym b) (carries e o values h k block r taken w)))

@@ -23,9 +23,10 @@ use Rattle.un_ir.specs.declared.extended.Ext.{Ext}
 use Rattle.un_ir.specs.Extended.{result_count}
 use Rattle.un_model.specs.declared.model.Options.{Options}
 use Rattle.un_model.specs.Emission.{instr_by, instr_if, frame_of, operand_registers, result_register, source_instr, copy_instr}
+use Rattle.un_model.specs.Emission.{is_beside, emitted_by}
 use Rattle.un_model.specs.Instructions.{instruction_of, frame_instr}
 use Rattle.un_ir.specs.Kinds.{is_delimiter}
-use Rattle.un_model.specs.Schedules.{instr_of, value_by}
+use Rattle.un_model.specs.Schedules.{instr_of, schedule_of, value_by}
 use Rattle.un_model.specs.Variables.{model_of, var_at, var_count, ops_count, block_count, block_vars, blocks_vars}
 use Rattle.un_model.proofs.Lists.{Each, Pairwise, Member, each_member, each_of, pairwise_append_left, pairwise_append_right}
 use Rattle.un_model.proofs.Lists.{member_append_left, member_append_right}
@@ -34,7 +35,8 @@ use Rattle.un_model.proofs.Placed.{Placed, placed, block_placed, blocks_placed, 
 use Rattle.un_model.proofs.PlacedSchedules.{all, range_at, joined_member}
 use Rattle.un_model.proofs.Readings.{Solved, placed_good}
 use Rattle.un_emit.proofs.Jobs.{job_with, job_by, instr_at, job_of, jobs_of}
-use Rattle.un_emit.proofs.JobDeeds.{temps_of, deed_source, deed_end, deed_shift, deed_copy}
+use Rattle.un_emit.proofs.JobDeeds.{temps_of, deed_source, beside, deed_end, deed_shift, deed_copy}
+use Rattle.un_emit.proofs.Own.{own_by, own_emitted}
 
 -- ---- the operations of a block among all
 
@@ -130,7 +132,7 @@ module _ (e : Ext) (o : Options) (values : List ℕ) (h : Solved e o values) whe
     pub instr : Instr
     pub emitted : instr_at (model_of e o) values p ≡ Some instr
     pub is : j ≡ job_with values p instr
-    pub issues : (issue_at values p).instr ≡ Some instr.op
+    pub issues : (issue_at values p).instr ≡ Some (own_by p.op.kind instr.op)
 
   source_op : (so : SrcOp) (op : Op) (srcs : List Reg) (dst : Option Reg) → (source_instr so op srcs dst).op ≡ op
   source_op so Call srcs dst = refl
@@ -154,10 +156,13 @@ module _ (e : Ext) (o : Options) (values : List ℕ) (h : Solved e o values) whe
   instr_op Leave op srcs dst i q = let k = ap (λ (x : Option Instr). option_map (λ (y : Instr). y.op) x) q in cc k
 
   issued_op : (p : Placed) (x : Option Op) (i : Instr) → instr_of values p.op (vars_of p) ≡ x
-      → instr_if (model_of e o) values p.op (vars_of p) x ≡ Some i → instr_of values p.op (vars_of p) ≡ Some i.op
+      → instr_if (model_of e o) values p.op (vars_of p) x ≡ Some i → instr_of values p.op (vars_of p) ≡ Some (own_by p.op.kind i.op)
   issued_op p None i q g = absurd (cc g)
-  issued_op p (Some op) i q g = q ∙ ap Some (sym (instr_op p.op.kind op (operand_registers (model_of e o) values p.op (vars_of p))
-      (result_register (model_of e o) values p.op) i g))
+  issued_op p (Some op) i q g =
+      let b = is_beside (schedule_of (model_of e o) values).ranges values p.op (vars_of p) in
+      let is = instr_op p.op.kind (emitted_by b p.op.kind op) (operand_registers (model_of e o) values p.op (vars_of p))
+      (result_register (model_of e o) values p.op) i g in
+      q ∙ ap Some (sym (ap (own_by p.op.kind) is ∙ own_emitted b p.op.kind (value_by values (vars_of p).instr) op q))
 
   pub job_is : (p : Placed) (x : Option Instr) (j : Job) → instr_at (model_of e o) values p ≡ x → Member j (job_by values p x) → IsJob p j
   job_is p None j q m = elim m [ ]
@@ -244,7 +249,8 @@ module _ (e : Ext) (o : Options) (values : List ℕ) (h : Solved e o values) whe
       (job_by values p (instr_if (model_of e o) values p.op (vars_of p) x))
   deed_with slots w p m None q = tt
   deed_with slots w p m (Some op) q = subst (λ (k : ExtKind). Each (Deed e.table (temps_of e o values h p.block) slots)
-      (job_by values p (instr_by e.blocks (frame_of (model_of e o) values) k op srcs dst))) refl (by_kind p.op.kind refl)
+      (job_by values p (instr_by e.blocks (frame_of (model_of e o) values) k (emitted_by (beside e o values h p m) k op) srcs dst))) refl
+      (by_kind p.op.kind refl)
     where
       srcs : List Reg
       srcs = operand_registers (model_of e o) values p.op (vars_of p)
@@ -262,7 +268,7 @@ module _ (e : Ext) (o : Options) (values : List ℕ) (h : Solved e o values) whe
       counted k s z = let g = placed_good e o values h p m in let f = g.keeps in f.results ∙ ap (result_count e.table p.owner) s ∙ z
 
       by_kind : (k : ExtKind) → p.op.kind ≡ k → Each (Deed e.table (temps_of e o values h p.block) slots)
-          (job_by values p (instr_by e.blocks (frame_of (model_of e o) values) k op srcs dst))
+          (job_by values p (instr_by e.blocks (frame_of (model_of e o) values) k (emitted_by (beside e o values h p m) k op) srcs dst))
       by_kind In s = tt
       by_kind Out s = tt
       by_kind (Body so) s =

@@ -28,9 +28,9 @@ use Rattle.un_isa.specs.declared.packet_counts.Resource.{Resource}
 use Rattle.un_isa.specs.declared.packet_counts.Resource.TheVariants.{Stores, Control}
 use Rattle.un_model.specs.Cost.{value_of}
 use Rattle.un_model.specs.Instructions.{latency_by, instruction_of, frame_instr}
-use Rattle.un_model.specs.Emission.{instr_if, instr_by, frame_of, operand_registers, result_register}
+use Rattle.un_model.specs.Emission.{instr_if, instr_by, frame_of, operand_registers, result_register, is_beside, emitted_by}
 use Rattle.un_ir.specs.Kinds.{is_delimiter, is_frame_op}
-use Rattle.un_model.specs.Schedules.{instr_of, issues_of, value_by, cycle_by}
+use Rattle.un_model.specs.Schedules.{instr_of, issues_of, value_by, cycle_by, schedule_of}
 use Rattle.un_model.specs.Solutions.{IsPlaced, IsPlacedAs, Precedes, memory_distance, ShareNoCycle, SparesRange, IsSpared, HasRoom}
 use Rattle.un_model.specs.Solutions.{share_of, taken, issues_at, HasFrame, frame_distance, IsLast}
 use Rattle.un_isa.specs.PacketCounts.{places_of}
@@ -47,6 +47,7 @@ use Rattle.un_model.proofs.Readings.{Solved, numbered, placed_good}
 use Rattle.un_emit.proofs.Jobs.{job_with, job_by, instr_at, job_of, jobs_of, given_temp}
 use Rattle.un_model.proofs.OpDomains.{flag_sits}
 use Rattle.un_emit.proofs.JobDeeds.{temps_of}
+use Rattle.un_emit.proofs.Own.{own_op, own_by, own_itself, transfer_alike, control_alike, memory_alike, stack_alike, earlier_alike, later_alike}
 use Rattle.un_emit.proofs.BlockJobs.{InRegion, in_region, region_block, pairwise_region, IsJob, job_is, each_job, pairwise_jobs, Placing}
 use Rattle.un_emit.proofs.BlockJobs.{active_of, deed_of}
 
@@ -160,24 +161,30 @@ module _ (e : Ext) (o : Options) (values : List ℕ) (h : Solved e o values) whe
   abbrev memory_apart : Placed → Placed → Type 0
   memory_apart p q = Precedes memory_distance (issue_at values p) (issue_at values q)
 
+  -- the operation that a job comes from issues the one that its instruction comes from
+  pub job_op : (p : Placed) (j : Job) → IsJob e o values h p j → (issue_at values p).instr ≡ Some (own_by p.op.kind j.instr.op)
+  job_op p j g = g.issues ∙ ap (λ (x : Job). Some (own_by p.op.kind x.instr.op)) (sym g.is)
+
+  pub job_itself : (p : Placed) (j : Job) (op : Op) → IsJob e o values h p j → own_op op ≡ op → j.instr.op ≡ op
+      → (issue_at values p).instr ≡ Some op
+  job_itself p j op g same is = job_op p j g ∙ ap Some (ap (own_by p.op.kind) is ∙ own_itself p.op.kind op same)
+
   precedes : (p q : Placed) (i j : Job) → memory_apart p q → p.block ≡ q.block → IsJob e o values h p i → IsJob e o values h q j
       → IfSome (memory_distance (Some i.instr.op) (Some j.instr.op)) (λ (n : ℕ). i.cycle + n ≤ j.cycle)
   unfolding Precedes
   precedes p q i j s same gi gj =
-      let f = s same in
-      let di : (issue_at values p).instr ≡ Some i.instr.op = gi.issues ∙ ap (λ (x : Job). Some x.instr.op) (sym gi.is) in
-      let dj : (issue_at values q).instr ≡ Some j.instr.op = gj.issues ∙ ap (λ (x : Job). Some x.instr.op) (sym gj.is) in
-      let f1 = subst (λ (x : Option Op). IfSome (memory_distance x (issue_at values q).instr)
-      (λ (n : ℕ). (issue_at values p).cycle + n ≤ (issue_at values q).cycle)) di f in
-      let f2 = subst (λ (x : Option Op). IfSome (memory_distance (Some i.instr.op) x)
-      (λ (n : ℕ). (issue_at values p).cycle + n ≤ (issue_at values q).cycle)) dj f1 in
+      let alike : memory_distance (issue_at values p).instr (issue_at values q).instr
+      ≡ memory_distance (Some i.instr.op) (Some j.instr.op) =
+      ap (λ (x : Option Op). memory_distance x (issue_at values q).instr) (job_op p i gi)
+      ∙ ap (λ (x : Option Op). memory_distance (Some (own_by p.op.kind i.instr.op)) x) (job_op q j gj)
+      ∙ earlier_alike p.op.kind i.instr.op (Some (own_by q.op.kind j.instr.op))
+      ∙ later_alike q.op.kind j.instr.op (Some i.instr.op) in
+      let f2 = subst (λ (x : Option ℕ). IfSome x (λ (n : ℕ). (issue_at values p).cycle + n ≤ (issue_at values q).cycle)) alike
+      (s same) in
       let ci : (issue_at values p).cycle ≡ i.cycle = ap (λ (x : Job). x.cycle) (sym gi.is) in
       let cj : (issue_at values q).cycle ≡ j.cycle = ap (λ (x : Job). x.cycle) (sym gj.is) in
       subst (λ c. IfSome (memory_distance (Some i.instr.op) (Some j.instr.op)) (λ (n : ℕ). i.cycle + n ≤ c)) cj
       (subst (λ c. IfSome (memory_distance (Some i.instr.op) (Some j.instr.op)) (λ (n : ℕ). c + n ≤ (issue_at values q).cycle)) ci f2)
-
-  pub job_op : (p : Placed) (j : Job) → IsJob e o values h p j → (issue_at values p).instr ≡ Some j.instr.op
-  job_op p j g = g.issues ∙ ap (λ (x : Job). Some x.instr.op) (sym g.is)
 
   pub job_cycle : (p : Placed) (j : Job) → IsJob e o values h p j → j.cycle ≡ (issue_at values p).cycle
   job_cycle p j g = ap (λ (x : Job). x.cycle) g.is
@@ -186,7 +193,7 @@ module _ (e : Ext) (o : Options) (values : List ℕ) (h : Solved e o values) whe
   job_gives p j g = ap (λ (x : Job). x.gives) g.is
 
   placed_as : (p : Placed) (j : Job) → Member p (all e o values) → IsJob e o values h p j
-      → IsPlacedAs (issue_at values p).cycle (end_of values p) j.instr.op
+      → IsPlacedAs (issue_at values p).cycle (end_of values p) (own_by p.op.kind j.instr.op)
   placed_as p j m g =
       let s = h.schedule in
       let l = s.latencies in
@@ -211,13 +218,14 @@ module _ (e : Ext) (o : Options) (values : List ℕ) (h : Solved e o values) whe
   unfolding HasRoom
   room r b c = let s = h.schedule in s.packets b c r
 
-  takes_by : (r : Resource) (p : Placed) (j : Job) → IsJob e o values h p j → 1 ≤ share_of e.table r (Some j.instr.op)
+  takes_by : (r : Resource) (p : Placed) (j : Job) → IsJob e o values h p j
+      → 1 ≤ share_of e.table r (Some (own_by p.op.kind j.instr.op))
       → 1 ≤ takes_place r p.block j.cycle (issue_at values p)
   takes_by r p j g le =
       let c = job_cycle p j g in
       let a : issues_at p.block j.cycle (issue_at values p) ≡ true =
       both (eq-eqb p.block p.block refl) (eq-eqb (issue_at values p).cycle j.cycle (sym c)) in
-      let s : takes_place r p.block j.cycle (issue_at values p) ≡ share_of e.table r (Some j.instr.op) =
+      let s : takes_place r p.block j.cycle (issue_at values p) ≡ share_of e.table r (Some (own_by p.op.kind j.instr.op)) =
       ap (λ (b : Bool). if b then share_of e.table r (issue_at values p).instr else 0) a ∙ ap (share_of e.table r) (job_op p j g) in
       omega arith
     where
@@ -370,9 +378,9 @@ module _ (e : Ext) (o : Options) (values : List ℕ) (h : Solved e o values) whe
         (pairwise_issues e o values (Precedes memory_distance) s.memory))
         (λ p q i j m n a gi gj. in_order i j (precedes p q i j a (its_block p m ∙ sym (its_block q n)) gi gj))
 
-    one_of : (test : Op → Bool) (res : Resource) → places_of res ≡ 1 → ((op : Op) → test op ≡ true → 1 ≤ share_of e.table res (Some op))
-        → Pairwise (NotBoth test) own_jobs
-    one_of test res one need =
+    one_of : (test : Op → Bool) (res : Resource) → places_of res ≡ 1 → ((kind : ExtKind) (op : Op) → test (own_by kind op) ≡ test op)
+        → ((op : Op) → test op ≡ true → 1 ≤ share_of e.table res (Some op)) → Pairwise (NotBoth test) own_jobs
+    one_of test res one alike need =
         pairwise_jobs e o values h (NotBoth test) (λ p q. (c : ℕ) → 1 ≤ takes_place res k c (issue_at values p)
         → 1 ≤ takes_place res k c (issue_at values q) → ⊥) own
         (all_cycles (λ c p q. 1 ≤ takes_place res k c (issue_at values p) → 1 ≤ takes_place res k c (issue_at values q) → ⊥) own
@@ -380,8 +388,8 @@ module _ (e : Ext) (o : Options) (values : List ℕ) (h : Solved e o values) whe
         → 1 ≤ takes_place res k c (issue_at values q) → ⊥) (all e o values) k block r
         (taken_pairs res k c (let z = room res k c in omega (arith, one)))))
         (λ p q i j m n a gi gj same ti tj.
-        let fi = takes_by res p i gi (need i.instr.op ti) in
-        let fj = takes_by res q j gj (need j.instr.op tj) in
+        let fi = takes_by res p i gi (need (own_by p.op.kind i.instr.op) (alike p.op.kind i.instr.op ∙ ti)) in
+        let fj = takes_by res q j gj (need (own_by q.op.kind j.instr.op) (alike q.op.kind j.instr.op ∙ tj)) in
         a i.cycle (subst (λ b. 1 ≤ takes_place res b i.cycle (issue_at values p)) (its_block p m) fi)
         (subst (λ c. 1 ≤ takes_place res k c (issue_at values q)) (sym same)
         (subst (λ b. 1 ≤ takes_place res b j.cycle (issue_at values q)) (its_block q n) fj)))
@@ -412,7 +420,7 @@ module _ (e : Ext) (o : Options) (values : List ℕ) (h : Solved e o values) whe
         let cyc = job_cycle p j g in
         let b = s.begun in
         let l = s.held in
-        sym (i (job_op p j g ∙ ap Some c) a.0 (its_block p m ∙ sym a.1) q
+        sym (i (job_itself p j Call g refl c) a.0 (its_block p m ∙ sym a.1) q
         (subst (λ n. (range.from ≤ n) × (n ≤ range.last)) cyc (b, omega arith)))
 
     not_in : (p : Placed) (j : Job) → IsJob e o values h p j → p.op.kind ≡ In → ⊥
@@ -479,7 +487,8 @@ module _ (e : Ext) (o : Options) (values : List ℕ) (h : Solved e o values) whe
             is_there None q r n = absurd (cc r)
             is_there (Some z) q r n = none p.op.kind refl n
               where
-                none : (x : ExtKind) → p.op.kind ≡ x → instr_by e.blocks (frame_of (model_of e o) values) x z
+                none : (x : ExtKind) → p.op.kind ≡ x → instr_by e.blocks (frame_of (model_of e o) values) x
+                    (emitted_by (is_beside (schedule_of (model_of e o) values).ranges values p.op (vars_of p)) x z)
                     (operand_registers (model_of e o) values p.op (vars_of p)) (result_register (model_of e o) values p.op) ≡ None → ⊥
                 none In s n = nin s
                 none Out s n = nout s
@@ -562,6 +571,16 @@ module _ (e : Ext) (o : Options) (values : List ℕ) (h : Solved e o values) whe
               (sym (ap (λ (y : ExtKind). instruction_of y (value_by values (vars_of p).instr)) x) ∙ g),
         )
 
+    pub shift_job : (p : Placed) (j : Job) → Member p (all e o values) → IsJob e o values h p j → moves_stack j.instr.op ≡ true
+        → ((p.op.kind ≡ Enter) × (j.instr.op ≡ EnterOp)) ⊎ ((p.op.kind ≡ Leave) × (j.instr.op ≡ LeaveOp))
+    shift_job p j m g s = ⊎_elim
+        (λ (u : (p.op.kind ≡ Enter) × (own_by p.op.kind j.instr.op ≡ EnterOp)). inl (u.0, itself Enter refl u.0 ∙ u.1))
+        (λ (u : (p.op.kind ≡ Leave) × (own_by p.op.kind j.instr.op ≡ LeaveOp)). inr (u.0, itself Leave refl u.0 ∙ u.1))
+        (shift_kind p (own_by p.op.kind j.instr.op) m (job_op p j g) (stack_alike p.op.kind j.instr.op ∙ s))
+      where
+        itself : (x : ExtKind) → own_by x j.instr.op ≡ j.instr.op → p.op.kind ≡ x → j.instr.op ≡ own_by p.op.kind j.instr.op
+        itself x f q = sym (ap (λ (y : ExtKind). own_by y j.instr.op) q ∙ f)
+
     abbrev the_flag : ℕ
     the_flag = value_of values (model_of e o).flag
 
@@ -625,8 +644,8 @@ module _ (e : Ext) (o : Options) (values : List ℕ) (h : Solved e o values) whe
         pairwise_jobs e o values h (NotBoth moves_stack) (λ p q. (is_enter p.op.kind ≡ true → is_enter q.op.kind ≡ true → ⊥)
         × (is_leave p.op.kind ≡ true → is_leave q.op.kind ≡ true → ⊥)) own
         (both own enters leaves) (λ p q i j m n a gi gj same si sj.
-        let ki = shift_kind p i.instr.op (here p m) (job_op p i gi) si in
-        let kj = shift_kind q j.instr.op (here q n) (job_op q j gj) sj in
+        let ki = shift_job p i (here p m) gi si in
+        let kj = shift_job q j (here q n) gj sj in
         let blk = its_block p m ∙ sym (its_block q n) in
         let cyc = sym (job_cycle p i gi) ∙ same ∙ job_cycle q j gj in
         ⊎_elim
@@ -663,10 +682,10 @@ module _ (e : Ext) (o : Options) (values : List ℕ) (h : Solved e o values) whe
             let flag = flag_set p (here p m) (ap is_frame_op u.0) (is_active_job p i gi) in
             let f = frame_apart p q (here p m) (here q n) flag blk in
             let f1 = subst (λ (x : Option Op). IfSome (frame_distance x (issue_at values q).instr)
-            (λ (n : ℕ). (issue_at values p).cycle + n ≤ (issue_at values q).cycle)) (job_op p i gi ∙ ap Some u.1) f in
+            (λ (n : ℕ). (issue_at values p).cycle + n ≤ (issue_at values q).cycle)) (job_itself p i EnterOp gi refl u.1) f in
             let f2 : (issue_at values p).cycle + 1 ≤ (issue_at values q).cycle =
             subst (λ (x : Option Op). IfSome (frame_distance (Some EnterOp) x)
-            (λ (n : ℕ). (issue_at values p).cycle + n ≤ (issue_at values q).cycle)) (job_op q j gj ∙ ap Some v.1) f1 in
+            (λ (n : ℕ). (issue_at values p).cycle + n ≤ (issue_at values q).cycle)) (job_itself q j LeaveOp gj refl v.1) f1 in
             omega arith
           where
             is_active_job : (p : Placed) (j : Job) → IsJob e o values h p j → (issue_at values p).active ≡ true
@@ -690,7 +709,7 @@ module _ (e : Ext) (o : Options) (values : List ℕ) (h : Solved e o values) whe
           let q = its_end p m in let l = f.0 in let z = l.1 in omega (arith, c, q, z));
       last = each_job e o values h (λ j. is_transfer j.instr.op ≡ true → j.cycle + 1 ≡ own_end) own (λ p j m g t.
           let f = placed_as p j (here p m) g in let c = job_cycle p j g in let q = its_end p m in
-          let z = subst (λ b. IsLast (issue_at values p).cycle (end_of values p) b) t f.1 in
+          let z = subst (λ b. IsLast (issue_at values p).cycle (end_of values p) b) (transfer_alike p.op.kind j.instr.op ∙ t) f.1 in
           omega (arith, c, q, z));
       giver = givers;
       give_apart = let counts = (counts_rise 0 (all e o values) (all_count 0 0 0 e.blocks)).0 in
@@ -698,7 +717,7 @@ module _ (e : Ext) (o : Options) (values : List ℕ) (h : Solved e o values) whe
           (pairwise_region (λ (p q : Placed). p.number < q.number) (all e o values) k block r counts)
           (λ p q i j m n lt gi gj. give_apart p q i j (here p m) (here q n) lt gi gj);
       clobbers = each_job e o values h (Clobbers e.table (temps_of e o values h k)) own clobbering;
-      one_write = one_of writes_memory Stores refl (λ op t. store_need e.table h.fit op t);
-      one_control = one_of is_control Control refl (λ op t. control_need e.table h.fit op t);
+      one_write = one_of writes_memory Stores refl memory_alike (λ op t. store_need e.table h.fit op t);
+      one_control = one_of is_control Control refl control_alike (λ op t. control_need e.table h.fit op t);
       one_shift = one_shift at;
     }

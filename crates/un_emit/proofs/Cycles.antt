@@ -14,27 +14,29 @@ use Rattle.un_isa.specs.declared.instr.Instr.{Instr}
 use Rattle.un_isa.specs.declared.table.Table.{Table}
 use Rattle.un_isa.specs.declared.outcome.CallRecord.{CallRecord}
 use Rattle.un_isa.specs.declared.start.Reply.{Reply}
-use Rattle.un_isa.specs.Does.{moves_stack, is_transfer}
+use Rattle.un_isa.specs.Does.{moves_stack, is_transfer, is_new, is_control}
+use Rattle.un_isa.specs.declared.reg.Reg.{Reg}
+use Rattle.un_isa.proofs.DoesLaws.{new_transfer, transfer_control}
 use Rattle.un_ir.specs.Linear.{World}
 use Rattle.un_packet.specs.declared.code.Packet.{Packet}
 use Rattle.un_packet.specs.Step.{PacketState, PacketStep, PacketStop, Went, Jumped, Stopped, Trapped, Waiting, traps, traps_by, reg_in}
-use Rattle.un_packet.specs.Step.{operand_in, record_of, packet_step, with_call, issue_cycle, value_of, value_by, frame_place}
+use Rattle.un_packet.specs.Step.{operand_in, operand_of, regs_after, record_of, packet_step, with_call, issue_cycle, value_of, value_by, frame_place}
 use Rattle.un_packet.specs.Run.{packets_run, then_packets, goes_on_unless, NoneWaits}
 use Rattle.un_model.proofs.Lists.{Each, Pairwise, Member, Split, split_at, Places, ahead, level, behind, two_places, find_filter}
 use Rattle.un_model.proofs.Lists.{pairwise_before, pairwise_after, each_member, each_of, each_filter, member_map, member_map_of}
 use Rattle.un_model.proofs.Lists.{member_append_left, member_append_right, member_filter, member_of_filter, any_of, none_any, found}
-use Rattle.un_model.proofs.Lists.{find_none}
+use Rattle.un_model.proofs.Lists.{find_none, pairwise_two}
 use Rattle.un_emit.proofs.Settled.{settled, the_call, CanAnswer, first_result, step_settles}
 use Rattle.un_emit.proofs.Timed.{Job, Temps, IsInSlot, ReadsAll, Deed, computes, moves, spills, reloads, from_pred, to_pred, loads, stores}
-use Rattle.un_emit.proofs.Timed.{calls, shifts, leaves, rests, Timed, AreTemps, Together, together, packet_jobs, jobs_at, issues_at}
+use Rattle.un_emit.proofs.Timed.{TestsNew, Stands, NotBoth, numbers, calls, shifts, leaves, tests, rests, Timed, AreTemps, Together, together, packet_jobs, jobs_at, issues_at}
 use Rattle.un_emit.proofs.Timed.{or_rest, rest_job, instrs}
 use Rattle.un_emit.proofs.Deeds.{alu_op, transfer_op, shift_op}
 use Rattle.un_emit.proofs.InTime.{InTime, CallsFit, issues, in_time_next, has_call, call_job}
-use Rattle.un_emit.proofs.FramePlace.{IsFrame}
+use Rattle.un_emit.proofs.FramePlace.{IsFrame, held_reg}
 use Rattle.un_emit.proofs.Holds.{Flows, AreTruths, Stacks, Holds, Finds, operands, frame_at, holds_next, uses_frame}
 use Rattle.un_emit.proofs.Effects.{InOrder, is_access, is_effect, address, call_of, after_job, fails, fails_by, is_empty, run_jobs}
 use Rattle.un_emit.proofs.Effects.{run_before, run_until, access_sees, world_of, world_next, ReadRight}
-use Rattle.un_emit.proofs.Exits.{transfer_of, exit_by, exit_of, leads_exit, is_false}
+use Rattle.un_emit.proofs.Exits.{tested, transfer_of, exit_by, exit_of, leads_exit, is_false}
 
 -- ---- what the jobs find and whether they fail, in their order
 
@@ -250,7 +252,14 @@ module _ (x : Scene) (h : IsScene x) (c : ℕ) (s : PacketState) (lt : c + 1 < x
       not_both Store a b = absurd (cc a)
       not_both Call a b = absurd (cc a)
       not_both _ a b = absurd (cc b)
-  access_right j m (leaves o r d g) q = reads_right j m r
+  access_right j m (leaves o old r d g) q = reads_right j m r
+  access_right j m (tests y n d g) q = let t = new_transfer j.instr.op n.new in absurd (not_both j.instr.op t q)
+    where
+      not_both : (op : Op) → is_transfer op ≡ true → is_access op ≡ true → ⊥
+      not_both Load a b = absurd (cc a)
+      not_both Store a b = absurd (cc a)
+      not_both Call a b = absurd (cc a)
+      not_both _ a b = absurd (cc b)
   access_right j m (rests o sr d g) q = let k : true ≡ false = sym q ∙ ap is_access o in absurd (cc k)
 
   right : ReadRight x.val s js
@@ -269,7 +278,9 @@ module _ (x : Scene) (h : IsScene x) (c : ℕ) (s : PacketState) (lt : c + 1 < x
   traps_what j m (stores o r g d) e = inr o
   traps_what j m (calls o r d g) e = absurd (no_trap_op j _ o refl e)
   traps_what j m (shifts o sr g) e = let z : true ≡ false = sym e ∙ (shift_op j.instr.op o).traps s j.instr in absurd (cc z)
-  traps_what j m (leaves o r d g) e = let z : true ≡ false = sym e ∙ (transfer_op j.instr.op o).traps s j.instr in absurd (cc z)
+  traps_what j m (leaves o old r d g) e = let z : true ≡ false = sym e ∙ (transfer_op j.instr.op o).traps s j.instr in absurd (cc z)
+  traps_what j m (tests y n d g) e =
+      let z : true ≡ false = sym e ∙ (transfer_op j.instr.op (new_transfer j.instr.op n.new)).traps s j.instr in absurd (cc z)
   traps_what j m (rests o sr d g) e = absurd (no_trap_op j _ o refl e)
 
   -- ---- the moment of an access of this cycle is the state's
@@ -495,25 +506,87 @@ module _ (x : Scene) (h : IsScene x) (c : ℕ) (s : PacketState) (lt : c + 1 < x
 
   -- ---- where it leads
 
-  transfer_right : (j : Job) → Member j js → Deed x.table x.temps x.slots j → is_transfer j.instr.op ≡ true → Right j
-  transfer_right j m (computes y o n r g p) q = reads_right j m r
-  transfer_right j m (moves w y o z lx ly) q = let k : true ≡ false = sym q ∙ ap is_transfer o in absurd (cc k)
-  transfer_right j m (spills w y o z sr d p i) q = let k : true ≡ false = sym q ∙ ap is_transfer o in absurd (cc k)
-  transfer_right j m (reloads w y o z sr d i ly) q = let k : true ≡ false = sym q ∙ ap is_transfer o in absurd (cc k)
-  transfer_right j m (from_pred w y o z kind lo hi ly) q = let k : true ≡ false = sym q ∙ ap is_transfer o in absurd (cc k)
-  transfer_right j m (to_pred w y o z kind lw lo hi) q = let k : true ≡ false = sym q ∙ ap is_transfer o in absurd (cc k)
-  transfer_right j m (loads y o r g p) q = reads_right j m r
-  transfer_right j m (stores o r g d) q = reads_right j m r
-  transfer_right j m (calls o r d g) q = reads_right j m r
-  transfer_right j m (shifts o sr g) q = let k : true ≡ false = sym q ∙ (shift_op j.instr.op o).transfers in absurd (cc k)
-  transfer_right j m (leaves o r d g) q = reads_right j m r
-  transfer_right j m (rests o sr d g) q = let k : true ≡ false = sym q ∙ ap is_transfer o in absurd (cc k)
+  -- what a transfer goes by
+  abbrev passed : Job → ℕ
+  passed j = tested s (regs_after s is s.regs) j.instr
+
+  -- it is the value that the transfer reads
+  abbrev GoesByRead : Job → Type 0
+  GoesByRead j = passed j ≡ first_read x.val j
+
+  old_right : (j : Job) → is_new j.instr.op ≡ false → Right j → GoesByRead j
+  old_right j old r =
+      ap (λ (b : Bool). if b then operand_of (regs_after s is s.regs) j.instr 0 else operand_in s j.instr 0) old
+      ∙ ap (λ xs. slice_index xs 0) r
+
+  never_old : (j : Job) → is_transfer j.instr.op ≡ true → is_transfer j.instr.op ≡ false → GoesByRead j
+  never_old j t f = let z : true ≡ false = sym t ∙ f in absurd (cc z)
+
+  -- no packet with a transfer calls
+  no_call : (j : Job) → Member j js → is_transfer j.instr.op ≡ true → the_call is ≡ None
+  no_call j m t = by (the_call is) refl
+    where
+      by : (o : Option Instr) → the_call is ≡ o → the_call is ≡ None
+      by None e = e
+      by (Some call) e =
+          let w = all in
+          let k = call_job js call e in
+          let control = call_control k.0.instr.op k.3 in
+          let same : k.0 ≡ j = ⊎_elim (λ (q : k.0 ≡ j). q)
+          (λ (d : NotBoth is_control k.0 j ⊎ NotBoth is_control j k.0). ⊎_elim
+          (λ (a : NotBoth is_control k.0 j). absurd (a (now k.0 k.1 ∙ sym (now j m)) control (transfer_control j.instr.op t)))
+          (λ (a : NotBoth is_control j k.0). absurd (a (now j m ∙ sym (now k.0 k.1)) (transfer_control j.instr.op t) control)) d)
+          (pairwise_two (NotBoth is_control) js k.0 j w.one_control k.1 m) in
+          let z : true ≡ false = sym t ∙ ap (λ (k : Job). is_transfer k.instr.op) (sym same) ∙ ap is_transfer k.3 in
+          absurd (cc z)
+        where
+          call_control : (op : Op) → op ≡ Call → is_control op ≡ true
+          call_control op q = ap is_control q
+
+  -- a predicate that is given in the packet's cycle is there behind its writes
+  new_right : (can : CanAnswer (the_call is) s.replies) (j : Job) → Member j js → (y : ℕ) → TestsNew x.temps j y → GoesByRead j
+  new_right can j m y n =
+      let regs = regs_after s is s.regs in
+      let t = new_transfer j.instr.op n.new in
+      let spans = temps.spans y n.active in
+      let from = n.from in
+      let cj = now j m in
+      let stands : Stands x.temps y (c + 1) = record { active = n.active; begun = omega (arith, from, cj); held = omega (arith, from, cj, spans) } in
+      let held = (at_next can).holds.held y stands in
+      let reg = n.reg in
+      let settled_regs : next.regs ≡ regs = ap (λ (o : Option Instr). (settled x.table o s.replies s is).regs) (no_call j m t) in
+      let there : slice_index regs (x.temps.place y) ≡ x.val y =
+      ap (λ (rs : List ℕ). slice_index rs (x.temps.place y)) (sym settled_regs) ∙ sym (held_reg next (x.temps.place y) reg) ∙ held
+      ∙ n.plain (x.val y) in
+      ap (λ (b : Bool). if b then operand_of regs j.instr 0 else operand_in s j.instr 0) n.new
+      ∙ ap (λ xs. slice_index xs 0) (values_in regs j.instr.srcs ∙ ap (map (slice_index regs)) n.srcs)
+      ∙ there ∙ sym (ap (λ xs. slice_index (map x.val xs) 0) n.reads)
+    where
+      values_in : (regs : List ℕ) (rs : List Reg) → map (λ (r : Reg). slice_index regs r.0) rs ≡ map (slice_index regs) (numbers rs)
+      values_in regs [] = refl
+      values_in regs (r ∷ rs) = ap (λ vs. slice_index regs r.0 ∷ vs) (values_in regs rs)
+
+  transfer_right : (can : CanAnswer (the_call is) s.replies) (j : Job) → Member j js → Deed x.table x.temps x.slots j
+      → is_transfer j.instr.op ≡ true → GoesByRead j
+  transfer_right can j m (computes y o n r g p) q = never_old j q (alu_op j.instr.op o).transfers
+  transfer_right can j m (moves w y o z lx ly) q = never_old j q (ap is_transfer o)
+  transfer_right can j m (spills w y o z sr d p i) q = never_old j q (ap is_transfer o)
+  transfer_right can j m (reloads w y o z sr d i ly) q = never_old j q (ap is_transfer o)
+  transfer_right can j m (from_pred w y o z kind lo hi ly) q = never_old j q (ap is_transfer o)
+  transfer_right can j m (to_pred w y o z kind lw lo hi) q = never_old j q (ap is_transfer o)
+  transfer_right can j m (loads y o r g p) q = never_old j q (ap is_transfer o)
+  transfer_right can j m (stores o r g d) q = never_old j q (ap is_transfer o)
+  transfer_right can j m (calls o r d g) q = never_old j q (ap is_transfer o)
+  transfer_right can j m (shifts o sr g) q = never_old j q (shift_op j.instr.op o).transfers
+  transfer_right can j m (leaves o old r d g) q = old_right j old (reads_right j m r)
+  transfer_right can j m (tests y n d g) q = new_right can j m y n
+  transfer_right can j m (rests o sr d g) q = never_old j q (ap is_transfer o)
 
   not_nop : (j : Job) → is_transfer j.instr.op ≡ true → j.instr.op ≡ Nop → ⊥
   not_nop j p q = let z : true ≡ false = sym p ∙ ap is_transfer q in absurd (cc z)
 
   settles : list_any (traps s) is ≡ false → CanAnswer (the_call is) s.replies
-      → packet_step x.table is s ≡ exit_of (transfer_of js) (λ (j : Job). operand_in s j.instr 0) next
+      → packet_step x.table is s ≡ exit_of (transfer_of js) passed next
   settles t can = let w = all in step_settles x.table s is t can ∙ leads_exit (c + 1) js w.cycle w.one_control s next
 
   -- before the last cycle
@@ -521,7 +594,7 @@ module _ (x : Scene) (h : IsScene x) (c : ℕ) (s : PacketState) (lt : c + 1 < x
       → packet_step x.table is s ≡ Went next
   goes_on t can later =
       let k = h.timed in
-      settles t can ∙ ap (λ (o : Option Job). exit_of o (λ (j : Job). operand_in s j.instr 0) next)
+      settles t can ∙ ap (λ (o : Option Job). exit_of o passed next)
       (find_none (λ (j : Job). is_transfer j.instr.op) js (each_of (λ (j : Job). is_transfer j.instr.op ≡ false) js
       (λ j m. is_false (is_transfer j.instr.op) (λ p.
       let z = each_member (λ (j : Job). is_transfer j.instr.op ≡ true → j.cycle + 1 ≡ x.end) x.jobs j k.last (of_packet j m (not_nop j p)) p
@@ -533,12 +606,11 @@ module _ (x : Scene) (h : IsScene x) (c : ℕ) (s : PacketState) (lt : c + 1 < x
       → packet_step x.table is s ≡ exit_of (transfer_of x.jobs) (first_read x.val) next
   exits t can last = settles t can ∙ values (transfer_of js) refl ∙ ap (λ (o : Option Job). exit_of o (first_read x.val) next) transfers
     where
-      values : (o : Option Job) → transfer_of js ≡ o → exit_of o (λ (j : Job). operand_in s j.instr 0) next ≡ exit_of o (first_read x.val)
-          next
+      values : (o : Option Job) → transfer_of js ≡ o → exit_of o passed next ≡ exit_of o (first_read x.val) next
       values None e = refl
       values (Some j) e =
           let f = found (λ (j : Job). is_transfer j.instr.op) js j e in
-          ap (λ xs. exit_by j.instr.op (slice_index xs 0) j.instr.label next) (transfer_right j f.0 (deed j f.0) f.1)
+          ap (λ v. exit_by j.instr.op v j.instr.label next) (transfer_right can j f.0 (deed j f.0) f.1)
 
       here : transfer_of (jobs_at x.jobs (c + 1)) ≡ transfer_of x.jobs
       here =

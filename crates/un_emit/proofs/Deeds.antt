@@ -7,21 +7,19 @@ use Rattle.std.proofs.lemmas.Bool.{or_parts}
 use Rattle.un_isa.specs.Operands.{is_alu}
 use Rattle.un_isa.specs.Words.{eval}
 use Rattle.un_isa.specs.declared.op.Op.{Op}
-use Rattle.un_isa.specs.declared.op.Op.TheVariants.{Load, Store, Call, Spill, Reload, Enter, Leave}
-use Rattle.un_isa.specs.declared.does.Does.{Does}
-use Rattle.un_isa.specs.declared.does.Does.TheVariants.{Jumps}
-use Rattle.un_isa.specs.Facts.{does_of}
+use Rattle.un_isa.specs.declared.op.Op.TheVariants.{Load, Store, Call, Spill, Reload, Enter, Leave, JumpIfNew, JumpIfNotNew}
 use Rattle.un_isa.specs.declared.reg.Reg.{Reg}
 use Rattle.un_isa.specs.declared.instr.Instr.{Instr}
 use Rattle.un_isa.specs.declared.table.Table.{Table}
 use Rattle.un_isa.specs.declared.reg.TheConstants.{STACK, FIRST_SLOT}
-use Rattle.un_isa.specs.Does.{jumps as jumps_to, is_call, is_return, is_jump, is_transfer, is_control, writes_memory, is_word_access, moves_stack}
+use Rattle.un_isa.specs.Does.{is_call, is_return, is_jump, is_transfer, is_new, is_control, writes_memory, is_word_access, moves_stack}
 use Rattle.un_isa.proofs.DoesLaws.{alu_stays, alu_stack, alu_memory, alu_access, transfer_stack, transfer_call, transfer_control, transfer_memory, transfer_access}
-use Rattle.un_packet.specs.Step.{PacketState, operand_in, traps_by, jumps_by, goes_by, value_by, reads_by, reg_in}
+use Rattle.un_isa.proofs.DoesLaws.{new_transfer}
+use Rattle.un_packet.specs.Step.{PacketState, traps_by, value_by, reads_by, reg_in}
 use Rattle.un_model.proofs.Lists.{Each, Pairwise, Member, each_member, each_of, each_map, pairwise_more, pairwise_map}
 use Rattle.un_emit.proofs.Packet.{target, target_by, is_store, slot_by, AreApart}
 use Rattle.un_emit.proofs.Timed.{Job, Temps, Stands, IsReadAt, numbers, ReadsAll, Gives, Copies, Deed, computes, moves, spills}
-use Rattle.un_emit.proofs.Timed.{reloads, from_pred, to_pred, loads, stores, calls, shifts, leaves, rests, AreTemps, NotBoth, GiveApart}
+use Rattle.un_emit.proofs.Timed.{reloads, from_pred, to_pred, loads, stores, calls, shifts, leaves, tests, rests, AreTemps, NotBoth, GiveApart}
 use Rattle.un_emit.proofs.Timed.{Together, instrs}
 
 -- ---- by operation
@@ -36,7 +34,6 @@ pub record Computes (op : Op) : Type 0 where
   pub writes : writes_memory op ≡ false
   pub stores : is_store op ≡ false
   pub traps : (s : PacketState) (i : Instr) → traps_by op s i ≡ false
-  pub jumps : (s : PacketState) (i : Instr) → jumps_by op s i ≡ false
   pub slot : (s : PacketState) (i : Instr) → slot_by op s i ≡ None
   pub value : (s : PacketState) (i : Instr) → value_by op s i ≡ eval i.op (map (reg_in s) i.srcs) i.imm
 
@@ -63,10 +60,6 @@ computed Load s i h = absurd (cc h)
 computed Reload s i h = absurd (cc h)
 computed _ s i h = refl
 
-no_jump : (does : Does) (v : ℕ) → jumps_to does ≡ false → goes_by does v ≡ false
-no_jump (Jumps when) v h = absurd (cc h)
-no_jump _ v h = refl
-
 pub alu_op : (op : Op) → is_alu op ≡ true → Computes op
 alu_op op h =
     let control = or_parts (is_call op) (is_transfer op) (alu_stays op h) in
@@ -82,7 +75,6 @@ alu_op op h =
       writes = quiet;
       stores = no_store op quiet;
       traps = λ s i. no_trap op s i inside;
-      jumps = λ s i. no_jump (does_of op) (operand_in s i 0) leave.0;
       slot = λ s i. no_slot op s i quiet;
       value = λ s i. computed op s i inside;
     }
@@ -119,7 +111,6 @@ pub record Shifts (op : Op) : Type 0 where
   pub writes : writes_memory op ≡ false
   pub stores : is_store op ≡ false
   pub traps : (s : PacketState) (i : Instr) → traps_by op s i ≡ false
-  pub jumps : (s : PacketState) (i : Instr) → jumps_by op s i ≡ false
   pub slot : (s : PacketState) (i : Instr) → slot_by op s i ≡ None
   pub target : (i : Instr) → target_by op i.dst ≡ Some STACK
 
@@ -131,8 +122,6 @@ shift_op Enter h = record {
   writes = refl;
   stores = refl;
   traps = λ s i. refl;
-  jumps =
-      λ s i. refl;
   slot = λ s i. refl;
   target = λ i. refl;
 }
@@ -143,25 +132,31 @@ shift_op Leave h = record {
   writes = refl;
   stores = refl;
   traps = λ s i. refl;
-  jumps =
-      λ s i. refl;
   slot = λ s i. refl;
   target = λ i. refl;
 }
 shift_op _ h = absurd (cc h)
 
-target_of : (op : Op) (i : Instr) → moves_stack op ≡ false → target_by op i.dst ≡ option_map (λ (r : Reg). r.0) i.dst
+pub target_of : (op : Op) (i : Instr) → moves_stack op ≡ false → target_by op i.dst ≡ option_map (λ (r : Reg). r.0) i.dst
 target_of Enter i h = absurd (cc h)
 target_of Leave i h = absurd (cc h)
 target_of _ i h = refl
 
--- the registers that an instruction reads are its operands and perhaps the stack pointer
+-- the registers that an instruction waits for are its operands and perhaps the stack pointer
 pub each_read : (P : ℕ → Type 0) (op : Op) (i : Instr) → P STACK → Each P (numbers i.srcs) → Each P (reads_by op i)
 each_read P Spill i h k = (h, k)
 each_read P Reload i h k = (h, k)
 each_read P Enter i h k = (h, tt)
 each_read P Leave i h k = (h, tt)
+each_read P JumpIfNew i h k = tt
+each_read P JumpIfNotNew i h k = tt
 each_read P _ i h k = k
+
+-- and none, where it tests what its own packet writes
+pub no_reads : (op : Op) (i : Instr) → is_new op ≡ true → reads_by op i ≡ []
+no_reads JumpIfNew i h = refl
+no_reads JumpIfNotNew i h = refl
+no_reads _ i h = absurd (cc h)
 
 -- ---- by job
 
@@ -184,19 +179,21 @@ one_source t T j x y c e lt = subst (Each (IsSource T j.cycle)) (sym e) ((x, c.r
 none_read : (T : Temps) (j : Job) → j.instr.srcs ≡ [] → Each (IsSource T j.cycle) (numbers j.instr.srcs)
 none_read T j e = subst (λ (rs : List Reg). Each (IsSource T j.cycle) (numbers rs)) (sym e) tt
 
-pub sources : (t : Table) (T : Temps) (slots : ℕ) (j : Job) → Deed t T slots j → Each (IsSource T j.cycle) (numbers j.instr.srcs)
-sources t T slots j (computes x a n r g p) = read_sources T j r
-sources t T slots j (moves x y o c p q) = one_source t T j x y c.copies c.srcs (omega arith)
-sources t T slots j (spills x y o c s d p q) = one_source t T j x y c s (omega arith)
-sources t T slots j (reloads x y o c s d p q) = none_read T j s
-sources t T slots j (from_pred x y o c k p q r) = one_source t T j x y c.copies c.srcs (omega arith)
-sources t T slots j (to_pred x y o c k p q r) = one_source t T j x y c.copies c.srcs (omega arith)
-sources t T slots j (loads x o r g p) = read_sources T j r
-sources t T slots j (stores o r g d) = read_sources T j r
-sources t T slots j (calls o r d g) = read_sources T j r
-sources t T slots j (shifts o s g) = none_read T j s
-sources t T slots j (leaves o r d g) = read_sources T j r
-sources t T slots j (rests o s d g) = none_read T j s
+pub sources : (t : Table) (T : Temps) (slots : ℕ) (j : Job) → Deed t T slots j → is_new j.instr.op ≡ false
+    → Each (IsSource T j.cycle) (numbers j.instr.srcs)
+sources t T slots j (computes x a n r g p) e = read_sources T j r
+sources t T slots j (moves x y o c p q) e = one_source t T j x y c.copies c.srcs (omega arith)
+sources t T slots j (spills x y o c s d p q) e = one_source t T j x y c s (omega arith)
+sources t T slots j (reloads x y o c s d p q) e = none_read T j s
+sources t T slots j (from_pred x y o c k p q r) e = one_source t T j x y c.copies c.srcs (omega arith)
+sources t T slots j (to_pred x y o c k p q r) e = one_source t T j x y c.copies c.srcs (omega arith)
+sources t T slots j (loads x o r g p) e = read_sources T j r
+sources t T slots j (stores o r g d) e = read_sources T j r
+sources t T slots j (calls o r d g) e = read_sources T j r
+sources t T slots j (shifts o s g) e = none_read T j s
+sources t T slots j (leaves o old r d g) e = read_sources T j r
+sources t T slots j (tests x n d g) e = let z : true ≡ false = sym n.new ∙ e in absurd (cc z)
+sources t T slots j (rests o s d g) e = none_read T j s
 
 -- the register that a job writes is that of what it gives, or the stack pointer
 abbrev pub Writes : Table → Temps → Job → ℕ → Type 0
@@ -225,7 +222,8 @@ writes t T slots j r (stores o q g d) e = gives_nowhere t T j r (ap moves_stack 
 writes t T slots j r (calls o q d g) e = gives_nowhere t T j r (ap moves_stack o) d e
 writes t T slots j r (shifts o s g) e = let k : Some STACK ≡ Some r = sym ((shift_op j.instr.op o).target j.instr)
     ∙ e in let p : r ≡ STACK = cc k in inl (p, o)
-writes t T slots j r (leaves o q d g) e = gives_nowhere t T j r (transfer_op j.instr.op o).shifts d e
+writes t T slots j r (leaves o old q d g) e = gives_nowhere t T j r (transfer_op j.instr.op o).shifts d e
+writes t T slots j r (tests x n d g) e = gives_nowhere t T j r (transfer_op j.instr.op (new_transfer j.instr.op n.new)).shifts d e
 writes t T slots j r (rests o s d g) e = gives_nowhere t T j r (ap moves_stack o) d e
 
 -- what a job gives in a register is written by its instruction, or is a call's result
@@ -254,7 +252,8 @@ lands t T slots j x (calls o q d (inl g)) e lt = absurd (cc (g, e))
 lands t T slots j x (calls o q d (inr g)) e lt = let h = g.1 in let k : g.0 ≡ x = cc (h.gives, e) in
     inr (o, subst (λ z. T.place z ≡ t.result) k g.2)
 lands t T slots j x (shifts o s g) e lt = absurd (cc (g, e))
-lands t T slots j x (leaves o q d g) e lt = absurd (cc (g, e))
+lands t T slots j x (leaves o old q d g) e lt = absurd (cc (g, e))
+lands t T slots j x (tests y n d g) e lt = absurd (cc (g, e))
 lands t T slots j x (rests o s d g) e lt = absurd (cc (g, e))
 
 -- ---- by packet

@@ -5,20 +5,26 @@ use Rattle.std.specs.List.{find}
 use Rattle.un_isa.specs.declared.op.Op.{Op}
 use Rattle.un_isa.specs.declared.does.Does.{Does}
 use Rattle.un_isa.specs.declared.does.Does.TheVariants.{Jumps, Returns}
+use Rattle.un_isa.specs.declared.does.When.{When}
+use Rattle.un_isa.specs.declared.does.When.TheVariants.{Always, IfTrue, IfFalse, IfNewTrue, IfNewFalse}
 use Rattle.un_isa.specs.Facts.{does_of}
 use Rattle.un_isa.specs.declared.instr.Instr.{Instr}
-use Rattle.un_isa.specs.Does.{jumps as jumps_to, returns, is_return, is_transfer, is_control}
+use Rattle.un_isa.specs.Does.{jumps as jumps_to, returns, tests_new, branches_new, is_return, is_new, is_transfer, is_control}
 use Rattle.un_isa.proofs.DoesLaws.{return_transfer, jump_transfer, transfer_control}
 use Rattle.un_packet.specs.Step.{PacketState, PacketStep, Went, Jumped, Stopped, Returned, operand_in, jumps, goes_by, is_taken, leads}
-use Rattle.un_packet.specs.Step.{goes_on}
+use Rattle.un_packet.specs.Step.{goes_on, operand_of, regs_after}
 use Rattle.un_model.proofs.Lists.{Each, Pairwise, Member, each_member, each_of, member_map, member_map_of, found, none_found, find_none}
 use Rattle.un_model.proofs.Lists.{pairwise_two}
 use Rattle.un_emit.proofs.Settled.{the_return}
 use Rattle.un_emit.proofs.Timed.{Job, instrs, NotBoth}
 
--- where a transfer leads whose operand has the value v, with this label, once the packet left the state u
+-- the value that a transfer goes by, by the state before its packet and the registers behind the packet's writes
+abbrev pub tested : PacketState → List ℕ → Instr → ℕ
+tested s new i = if is_new i.op then operand_of new i 0 else operand_in s i 0
+
+-- where a transfer leads that goes by the value v, with this label, once the packet left the state u
 abbrev pub exit_as : Does → ℕ → Option (List ℕ) → PacketState → PacketStep
-exit_as (Jumps when) v label u = if is_taken when v then Jumped (unwrap_or label []) u else Went u
+exit_as (Jumps when) v label u = if is_taken when v v then Jumped (unwrap_or label []) u else Went u
 exit_as Returns v label u = Stopped (Returned (slice_index u.regs 0) v) u
 exit_as _ v label u = Went u
 
@@ -28,7 +34,7 @@ exit_by op v label u = exit_as (does_of op) v label u
 abbrev pub transfer_of : List Job → Option Job
 transfer_of js = find (λ (j : Job). is_transfer j.instr.op) js
 
--- where the jobs lead whose transfer's operand has the value that `v` gives
+-- where the jobs lead whose transfer goes by the value that `v` gives
 abbrev pub exit_of : Option Job → (Job → ℕ) → PacketState → PacketStep
 exit_of None v u = Went u
 exit_of (Some j) v u = exit_by j.instr.op (v j) j.instr.label u
@@ -50,12 +56,21 @@ found_none : (test : Instr → Bool) (js : List Job) → ((i : Job) → Member i
 found_none test js h = find_none test (instrs js) (Rattle.un_model.proofs.Lists.each_map (λ i. test i ≡ false) (λ (j : Job). j.instr) js
     (each_of (λ (i : Job). test i.instr ≡ false) js h))
 
-goes_jump : (does : Does) (v : ℕ) → goes_by does v ≡ true → jumps_to does ≡ true
-goes_jump (Jumps when) v h = refl
-goes_jump _ v h = absurd (cc h)
+goes_jump : (does : Does) (v w : ℕ) → goes_by does v w ≡ true → jumps_to does ≡ true
+goes_jump (Jumps when) v w h = refl
+goes_jump _ v w h = absurd (cc h)
 
-going_transfer : (s : PacketState) (i : Instr) → jumps s i ≡ true → is_transfer i.op ≡ true
-going_transfer s i h = jump_transfer i.op (goes_jump (does_of i.op) (operand_in s i 0) h)
+going_transfer : (s : PacketState) (new : List ℕ) (i : Instr) → jumps s new i ≡ true → is_transfer i.op ≡ true
+going_transfer s new i h = jump_transfer i.op (goes_jump (does_of i.op) (operand_in s i 0) (operand_of new i 0) h)
+
+-- a jump is taken by one of the two values
+taken_by : (when : When) (old new : ℕ)
+    → is_taken when old new ≡ is_taken when (if tests_new when then new else old) (if tests_new when then new else old)
+taken_by Always old new = refl
+taken_by IfTrue old new = refl
+taken_by IfFalse old new = refl
+taken_by IfNewTrue old new = refl
+taken_by IfNewFalse old new = refl
 
 false_or_true : (b : Bool) → (b ≡ true) ⊎ (b ≡ false)
 false_or_true true = inl refl
@@ -66,8 +81,11 @@ is_false true h = absurd (h refl)
 is_false false h = refl
 
 module _ (c : ℕ) (js : List Job) (same : Each (λ j. j.cycle ≡ c) js) (one : Pairwise (NotBoth is_control) js) (s u : PacketState) where
+  abbrev new : List ℕ
+  new = regs_after s (instrs js) s.regs
+
   abbrev v : Job → ℕ
-  v j = operand_in s j.instr 0
+  v j = tested s new j.instr
 
   alone : (j : Job) → Member j js → is_transfer j.instr.op ≡ true → (i : Job) → Member i js → is_transfer i.instr.op ≡ true → i ≡ j
   alone j m p i n q =
@@ -86,30 +104,30 @@ module _ (c : ℕ) (js : List Job) (same : Each (λ j. j.cycle ≡ c) js) (one :
       ∙ k in absurd (cc z) in
       let r = found_none (λ (i : Instr). is_return i.op) js (λ i m. is_false (is_return i.instr.op)
       (λ p. no i m (return_transfer i.instr.op p))) in
-      let j = found_none (jumps s) js (λ i m. is_false (jumps s i.instr) (λ p. no i m (going_transfer s i.instr p))) in
+      let j = found_none (jumps s new) js (λ i m. is_false (jumps s new i.instr) (λ p. no i m (going_transfer s new i.instr p))) in
       ap (λ (x : Option Instr). leads x s (instrs js) u) r ∙ ap (λ (x : Option Instr). goes_on x u) j
 
   -- a jump that is taken or not
   by_jump : (j : Job) → Member j js → is_transfer j.instr.op ≡ true → is_return j.instr.op ≡ false
-      → leads (the_return (instrs js)) s (instrs js) u ≡ (if jumps s j.instr then Jumped (unwrap_or j.instr.label []) u else Went u)
+      → leads (the_return (instrs js)) s (instrs js) u ≡ (if jumps s new j.instr then Jumped (unwrap_or j.instr.label []) u else Went u)
   by_jump j m p q =
       let r = found_none (λ (i : Instr). is_return i.op) js (λ i n. is_false (is_return i.instr.op) (λ x.
       let e = alone j m p i n (return_transfer i.instr.op x) in let z : true ≡ false = sym x ∙ ap (λ (k : Job). is_return k.instr.op) e
       ∙ q in absurd (cc z))) in
       ap (λ (x : Option Instr). leads x s (instrs js) u) r ∙ ⊎_elim
-      (λ (t : jumps s j.instr ≡ true).
-      ap (λ (x : Option Instr). goes_on x u) (found_one (jumps s) js j m t
-      (λ i n x. alone j m p i n (going_transfer s i.instr x)))
+      (λ (t : jumps s new j.instr ≡ true).
+      ap (λ (x : Option Instr). goes_on x u) (found_one (jumps s new) js j m t
+      (λ i n x. alone j m p i n (going_transfer s new i.instr x)))
       ∙ sym (ap (λ (b : Bool). if b then Jumped (unwrap_or j.instr.label []) u else Went u) t))
-      (λ (f : jumps s j.instr ≡ false).
-      ap (λ (x : Option Instr). goes_on x u) (found_none (jumps s) js (λ i n. is_false (jumps s i.instr) (λ x.
-      let e = alone j m p i n (going_transfer s i.instr x) in let z : true ≡ false = sym x ∙ ap (λ (k : Job). jumps s k.instr) e
+      (λ (f : jumps s new j.instr ≡ false).
+      ap (λ (x : Option Instr). goes_on x u) (found_none (jumps s new) js (λ i n. is_false (jumps s new i.instr) (λ x.
+      let e = alone j m p i n (going_transfer s new i.instr x) in let z : true ≡ false = sym x ∙ ap (λ (k : Job). jumps s new k.instr) e
       ∙ f in absurd (cc z))))
       ∙ sym (ap (λ (b : Bool). if b then Jumped (unwrap_or j.instr.label []) u else Went u) f))
-      (false_or_true (jumps s j.instr))
+      (false_or_true (jumps s new j.instr))
 
   by_return : (j : Job) → Member j js → is_return j.instr.op ≡ true
-      → leads (the_return (instrs js)) s (instrs js) u ≡ Stopped (Returned (slice_index u.regs 0) (v j)) u
+      → leads (the_return (instrs js)) s (instrs js) u ≡ Stopped (Returned (slice_index u.regs 0) (operand_in s j.instr 0)) u
   by_return j m p =
       ap (λ (x : Option Instr). leads x s (instrs js) u)
       (found_one (λ (i : Instr). is_return i.op) js j m p (λ i n x. alone j m (return_transfer j.instr.op p) i n
@@ -117,9 +135,18 @@ module _ (c : ℕ) (js : List Job) (same : Each (λ j. j.cycle ≡ c) js) (one :
 
   by_what : (does : Does) (j : Job) → Member j js → does_of j.instr.op ≡ does → (jumps_to does || returns does) ≡ true
       → leads (the_return (instrs js)) s (instrs js) u ≡ exit_as does (v j) j.instr.label u
-  by_what (Jumps when) j m e h = by_jump j m (ap (λ (d : Does). jumps_to d || returns d) e) (ap returns e)
-      ∙ ap (λ (d : Does). if goes_by d (v j) then Jumped (unwrap_or j.instr.label []) u else Went u) e
-  by_what Returns j m e h = by_return j m (ap returns e)
+  by_what (Jumps when) j m e h =
+      let before = operand_in s j.instr 0 in
+      let behind = operand_of new j.instr 0 in
+      let exit = λ (b : Bool). if b then Jumped (unwrap_or j.instr.label []) u else Went u in
+      by_jump j m (ap (λ (d : Does). jumps_to d || returns d) e) (ap returns e)
+      ∙ ap (λ (d : Does). exit (goes_by d before behind)) e
+      ∙ ap exit (taken_by when before behind)
+      ∙ sym (ap (λ (d : Does). let w = if branches_new d then behind else before in exit (is_taken when w w)) e)
+  by_what Returns j m e h =
+      by_return j m (ap returns e)
+      ∙ sym (ap (λ (d : Does). Stopped (Returned (slice_index u.regs 0) (if branches_new d then operand_of new j.instr 0
+      else operand_in s j.instr 0)) u) e)
   by_what _ j m e h = absurd (cc h)
 
   pub leads_exit : leads (the_return (instrs js)) s (instrs js) u ≡ exit_of (transfer_of js) v u

@@ -14,6 +14,7 @@ use Rattle.un_isa.specs.declared.reg.Reg.{Reg}
 use Rattle.un_isa.specs.declared.instr.Instr.{Instr}
 use Rattle.un_isa.specs.declared.table.Table.{Table}
 use Rattle.un_isa.specs.Does.{is_call, moves_stack, is_copy, writes_memory}
+use Rattle.un_isa.proofs.DoesLaws.{new_transfer}
 use Rattle.un_ir.specs.declared.function.Kind.{Kind}
 use Rattle.un_ir.specs.declared.function.Kind.TheVariants.{Pred}
 use Rattle.un_isa.specs.declared.reg.TheConstants.{STACK, GENERALS, REGISTERS, FIRST_SLOT}
@@ -25,7 +26,7 @@ use Rattle.un_emit.proofs.Packet.{puts, given, given_by, slot, slot_by, AreApart
 use Rattle.un_emit.proofs.Settled.{settled, the_call, CanAnswer, clobbered_by, first_result, settled_frame, settled_frame_start}
 use Rattle.un_emit.proofs.Settled.{length-settled_regs, reg_kept, reg_written, reg_result}
 use Rattle.un_emit.proofs.Timed.{Job, Temps, Stands, IsReadAt, IsPlain, numbers, ReadsAll, Gives, Copies, IsInSlot, Deed, computes}
-use Rattle.un_emit.proofs.Timed.{moves, spills, reloads, from_pred, to_pred, loads, stores, calls, shifts, leaves, rests, AreTemps, NotBoth}
+use Rattle.un_emit.proofs.Timed.{moves, spills, reloads, from_pred, to_pred, loads, stores, calls, shifts, leaves, tests, rests, AreTemps, NotBoth}
 use Rattle.un_emit.proofs.Timed.{Together, instrs}
 use Rattle.un_emit.proofs.Deeds.{alu_op, transfer_op, shift_op, apart_targets, unwritten}
 use Rattle.un_emit.proofs.InTime.{CallsFit, given_by_call, lands_written, has_call, clobbers_when, stands_before, never_clobbered}
@@ -203,7 +204,8 @@ module _ (t : Table) (T : Temps) (val : ℕ → ℕ) (stack : ℕ → ℕ) (base
   gives_value s j x h tr fr k now f st ld (stores o r g d) e lt nc = absurd (cc (g, e))
   gives_value s j x h tr fr k now f st ld (calls o r d g) e lt nc = absurd (nc o)
   gives_value s j x h tr fr k now f st ld (shifts o sr g) e lt nc = absurd (cc (g, e))
-  gives_value s j x h tr fr k now f st ld (leaves o r d g) e lt nc = absurd (cc (g, e))
+  gives_value s j x h tr fr k now f st ld (leaves o old r d g) e lt nc = absurd (cc (g, e))
+  gives_value s j x h tr fr k now f st ld (tests y n d g) e lt nc = absurd (cc (g, e))
   gives_value s j x h tr fr k now f st ld (rests o sr d g) e lt nc = absurd (cc (g, e))
 
   -- ---- slots
@@ -233,7 +235,10 @@ module _ (t : Table) (T : Temps) (val : ℕ → ℕ) (stack : ℕ → ℕ) (base
   writes_slot s j r fr k st (stores o q g d) e = absurd (no_slot s j.instr Store r o refl e)
   writes_slot s j r fr k st (calls o q d g) e = absurd (no_slot s j.instr Call r o refl e)
   writes_slot s j r fr k st (shifts o sr g) e = absurd (no_slot s j.instr j.instr.op r refl ((shift_op j.instr.op o).slot s j.instr) e)
-  writes_slot s j r fr k st (leaves o q d g) e = absurd (no_slot s j.instr j.instr.op r refl ((transfer_op j.instr.op o).slot s j.instr) e)
+  writes_slot s j r fr k st (leaves o old q d g) e = absurd (no_slot s j.instr j.instr.op r refl
+      ((transfer_op j.instr.op o).slot s j.instr) e)
+  writes_slot s j r fr k st (tests y n d g) e = absurd (no_slot s j.instr j.instr.op r refl
+      ((transfer_op j.instr.op (new_transfer j.instr.op n.new)).slot s j.instr) e)
   writes_slot s j r fr k st (rests o sr d g) e = absurd (no_slot s j.instr Nop r o refl e)
 
   -- what a job gives in a slot
@@ -266,7 +271,8 @@ module _ (t : Table) (T : Temps) (val : ℕ → ℕ) (stack : ℕ → ℕ) (base
   gives_slot s j x h fr k now f st (calls o q d (inr g)) fit le lt e = let z = g.1 in let same : g.0 ≡ x = cc (z.gives, e) in
       let b : T.place x ≡ t.result = subst (λ n. T.place n ≡ t.result) same g.2 in let r = fit.small in absurd (omega arith)
   gives_slot s j x h fr k now f st (shifts o sr g) fit le lt e = absurd (cc (g, e))
-  gives_slot s j x h fr k now f st (leaves o q d g) fit le lt e = absurd (cc (g, e))
+  gives_slot s j x h fr k now f st (leaves o old q d g) fit le lt e = absurd (cc (g, e))
+  gives_slot s j x h fr k now f st (tests y n d g) fit le lt e = absurd (cc (g, e))
   gives_slot s j x h fr k now f st (rests o sr d g) fit le lt e = absurd (cc (g, e))
 
   -- what holds of the values of a packet's jobs in state s
@@ -323,7 +329,8 @@ module _ (t : Table) (T : Temps) (val : ℕ → ℕ) (stack : ℕ → ℕ) (base
     call_result j x (calls p r d (inr g)) o e = let z = g.1 in let same : g.0 ≡ x = cc (z.gives, e) in
         subst (λ n. (T.place n ≡ t.result) × IsPlain T n) same (g.2, g.3)
     call_result j x (shifts p sr g) o e = absurd (cc (g, e))
-    call_result j x (leaves p r d g) o e = absurd (cc (g, e))
+    call_result j x (leaves p old r d g) o e = absurd (cc (g, e))
+    call_result j x (tests y n d g) o e = absurd (cc (g, e))
     call_result j x (rests p sr d g) o e = absurd (cc (g, e))
 
     -- the state after the packet of the next cycle

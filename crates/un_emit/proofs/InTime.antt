@@ -10,14 +10,14 @@ use Rattle.un_isa.specs.declared.op.Op.TheVariants.{Call, Enter, Leave}
 use Rattle.un_isa.specs.declared.instr.Instr.{Instr}
 use Rattle.un_isa.specs.declared.table.Table.{Table}
 use Rattle.un_isa.specs.declared.reg.TheConstants.{STACK, REGISTERS, FIRST_SLOT}
-use Rattle.un_isa.specs.Does.{is_call, moves_stack}
+use Rattle.un_isa.specs.Does.{is_call, is_new, moves_stack}
 use Rattle.un_packet.specs.Step.{PacketState, issue_cycle, reads_of}
 use Rattle.un_model.proofs.Lists.{Each, Member, each_member, each_of, each_map, each_more, member_map, member_map_of, found, none_found}
 use Rattle.un_emit.proofs.Packet.{target, issues_next}
 use Rattle.un_emit.proofs.Settled.{settled, the_call, CanAnswer, clobbered_by, settled_cycle, length-settled_ready, ready_kept}
 use Rattle.un_emit.proofs.Settled.{ready_written, ready_clobbered}
 use Rattle.un_emit.proofs.Timed.{Job, Temps, Stands, IsReadAt, Gives, Deed, AreTemps, Together, gives_of, instrs, Clobbers, numbers}
-use Rattle.un_emit.proofs.Deeds.{sources, IsSource, each_read, writes, lands, apart_targets, unwritten, shift_op}
+use Rattle.un_emit.proofs.Deeds.{sources, IsSource, each_read, no_reads, writes, lands, apart_targets, unwritten, shift_op}
 
 -- after cycle c of a block that began when the counter was at k
 pub record InTime (T : Temps) (k c : ℕ) (s : PacketState) : Type 0 where
@@ -52,10 +52,13 @@ issues t T slots k c js s h w i =
         let now : j.cycle ≡ c + 1 = each_member (λ (a : Job). a.cycle ≡ c + 1) js j w.cycle m in
         let e = i.cycle in let b = i.stack in
         let first : slice_index s.ready STACK ≤ s.cycle + 1 = omega arith in
-        each_read (λ r. slice_index s.ready r ≤ s.cycle + 1) j.instr.op j.instr first
-        (each_more (IsSource T j.cycle) (λ r. slice_index s.ready r ≤ s.cycle + 1) (numbers j.instr.srcs)
-        (λ r q. source_ready T slots k c s r h i (subst (λ n. IsSource T n r) now q))
-        (sources t T slots j (each_member (Deed t T slots) js j w.deeds m)))
+        elim (is_new j.instr.op) as (λ b. is_new j.instr.op ≡ b → Each (λ r. slice_index s.ready r ≤ s.cycle + 1) (reads_of j.instr)) [
+          | true ↦ λ new. subst (Each (λ r. slice_index s.ready r ≤ s.cycle + 1)) (sym (no_reads j.instr.op j.instr new)) tt
+          | false ↦ λ old. each_read (λ r. slice_index s.ready r ≤ s.cycle + 1) j.instr.op j.instr first
+              (each_more (IsSource T j.cycle) (λ r. slice_index s.ready r ≤ s.cycle + 1) (numbers j.instr.srcs)
+              (λ r q. source_ready T slots k c s r h i (subst (λ n. IsSource T n r) now q))
+              (sources t T slots j (each_member (Deed t T slots) js j w.deeds m) old))
+        ] refl
 
 -- the job of a packet's call
 pub call_job : (js : List Job) (call : Instr) → the_call (instrs js) ≡ Some call → (j : Job) × (Member j js) × (j.instr ≡ call)

@@ -1,11 +1,12 @@
 -- What each job of a solution's block is: its operands and its result lie where its instruction wants them.
 use Rattle.std.proofs.Common.{ℕ, ℤ, zero, suc, pos, ◌≡◌, ◌≢◌, ◌<◌, ◌≤◌, ◌+◌, ◌-◌, ◌*◌, Bool, true, false, ◌&&◌, List, [], ◌∷◌, length, map}
 use Rattle.std.proofs.Common.{take, inl, inr, ⊎_elim, refl, sym, ap, ◌∙◌, subst, arith}
-use Rattle.std.specs.Prelude.{Option, Some, None, slice_get, slice_index, unwrap_or, nat_eq, nat_lt, if◌then◌else◌}
+use Rattle.std.specs.Prelude.{Option, Some, None, slice_get, slice_index, unwrap_or, nat_eq, nat_lt, ◌==◌, if◌then◌else◌}
 use Rattle.std.specs.Option.{option_map, option_to_list}
 use Rattle.std.specs.List.{AllZip}
-use Rattle.std.proofs.lemmas.Bool.{cases_lt, eq-eqb}
+use Rattle.std.proofs.lemmas.Bool.{cases_lt, eq-eqb, eqb-true}
 use Rattle.std.proofs.lemmas.Bool.Decides.{nat_tests}
+use Rattle.un_base.specs.declared.ids.BlockId.{BlockId}
 use Rattle.un_base.specs.declared.ids.NameId.{NameId}
 use Rattle.un_base.specs.declared.ids.TempId.{TempId}
 use Rattle.un_isa.specs.Facts.{is_source, result_space as space_of_result}
@@ -13,14 +14,14 @@ use Rattle.un_isa.specs.Operands.{is_alu}
 use Rattle.un_isa.specs.Registers.{space_of}
 use Rattle.un_isa.specs.Tables.{latency_of}
 use Rattle.un_isa.specs.declared.op.Op.{Op}
-use Rattle.un_isa.specs.declared.op.Op.TheVariants.{Mov, Load, Store, Call, Spill, Reload, P2R, R2P}
+use Rattle.un_isa.specs.declared.op.Op.TheVariants.{Mov, Load, Store, Call, Jump as JumpOp, Jumpr, Spill, Reload, P2R, R2P}
 use Rattle.un_isa.specs.declared.reg.TheConstants.{GENERALS, FIRST_SLOT}
 use Rattle.un_isa.specs.declared.reg.Reg.{Reg}
 use Rattle.un_isa.specs.declared.reg.Space.{Space}
 use Rattle.un_isa.specs.declared.reg.Space.TheVariants.{R, P, M}
 use Rattle.un_isa.specs.declared.instr.Instr.{Instr}
-use Rattle.un_isa.specs.Does.{moves_stack, is_copy}
-use Rattle.un_isa.proofs.DoesLaws.{so_holds}
+use Rattle.un_isa.specs.Does.{moves_stack, is_copy, is_branch, is_new, is_compare, is_transfer}
+use Rattle.un_isa.proofs.DoesLaws.{so_holds, source_branch, copy_branch}
 use Rattle.un_ir.specs.declared.function.Kind.{Kind}
 use Rattle.un_ir.specs.declared.function.Kind.TheVariants.{General, Pred}
 use Rattle.un_ir.specs.declared.function.SrcOp.{SrcOp}
@@ -38,27 +39,29 @@ use Rattle.un_ir.specs.Extended.{IsGoodKind, IsSourceOp, HasItsResult, result_co
 use Rattle.un_model.specs.declared.model.Options.{Options}
 use Rattle.un_model.specs.declared.schedule.LiveRange.{LiveRange}
 use Rattle.un_model.specs.Emission.{temp_register, operand_registers, result_register, source_instr, term_instr, copy_instr, stack_instr}
-use Rattle.un_model.specs.Emission.{slot_offset}
+use Rattle.un_model.specs.Emission.{slot_offset, new_op, is_from, reads_beside, is_beside}
 use Rattle.un_model.specs.Instructions.{latency_by, operand_space_in, result_space_in, space_read, space_given, transfer_of, copy_of}
 use Rattle.un_model.specs.Pairs.{places_from}
-use Rattle.un_model.specs.Schedules.{choice_of, value_by}
+use Rattle.un_model.specs.Schedules.{choice_of, value_by, cycle_by, schedule_of}
 use Rattle.un_model.specs.Solutions.{InSpace, InDomain}
-use Rattle.un_model.proofs.Transfers.{transfer_leaves}
+use Rattle.un_model.proofs.Transfers.{transfer_leaves, copy_copies}
+use Rattle.un_model.proofs.Gaps.{is_fresh_in, is_branch_in, is_compare_in, no_branch, fresh_facts, fresh_here, fresh_quick}
 use Rattle.un_domains.specs.declared.domain.Domain.TheVariants.{Set}
 use Rattle.un_model.specs.Variables.{model_of, result_domain, carried as value_carried, register_domain, source_domain, register_place}
 use Rattle.un_simulation.specs.Simulation.{as_held}
 use Rattle.un_model.proofs.Lists.{Each, Member, slice_get-map, member_map}
 use Rattle.un_emit.proofs.FramePlace.{held_pred}
 use Rattle.un_emit.proofs.Timed.{Temps, IsReadAt, IsPlain, numbers, ReadsAll, Gives, GivesReg, GivesResult, Copies}
-use Rattle.un_emit.proofs.Timed.{IsInSlot, Deed, computes, moves, spills, reloads, from_pred, to_pred, loads, stores, calls, shifts, leaves}
-use Rattle.un_model.proofs.Placed.{Placed, vars_of, issue_at, spot, spots_of}
-use Rattle.un_model.proofs.PlacedSchedules.{all, spots, range_at, spot_range, range_here, given_space, member_joined}
+use Rattle.un_emit.proofs.Timed.{IsInSlot, Deed, computes, moves, spills, reloads, from_pred, to_pred, loads, stores, calls, shifts, leaves, tests}
+use Rattle.un_model.proofs.Placed.{Placed, vars_of, issue_at, end_of, spot, spots_of}
+use Rattle.un_model.proofs.PlacedSchedules.{all, spots, range_at, spot_range, range_get, range_here, given_space, member_joined}
 use Rattle.un_model.proofs.Operations.{contains_member}
 use Rattle.un_model.proofs.TempKinds.{kind_at, kind_or, carried_at, own_kind, same_kind, carried_is}
 use Rattle.un_model.proofs.OpDomains.{register_sits, in_entry}
 use Rattle.un_model.proofs.Readings.{Solved, numbered, fit_kinds, placed_good, placed_domains, Reading, reading, register_is}
 use Rattle.un_model.proofs.Readings.{waited_latency}
 use Rattle.un_emit.proofs.Jobs.{given_temp, job_with}
+use Rattle.un_emit.proofs.Own.{own_emitted, own_old, transfer_alike, new_emitted, not_beside}
 
 -- ---- spaces
 
@@ -164,6 +167,7 @@ module _ (e : Ext) (o : Options) (values : List ℕ) (h : Solved e o values) whe
     from = λ k. (range_at e o values k).from;
     until = λ k. (range_at e o values k).last + 1;
     lat = λ k. latency_by e.table (range_at e o values k).instr;
+    compared = λ k. is_compare_in (range_at e o values k).instr;
     kind = λ k. kind_at e o values (numbered e o values h) (fit_kinds e o values h) k;
   }
 
@@ -181,16 +185,34 @@ module _ (e : Ext) (o : Options) (values : List ℕ) (h : Solved e o values) whe
     abbrev T : Temps
     T = temps_of p.block
 
-    pub operand_facts : (j : ℕ) (x : Operand) (want : Want) → Reading e o values h p j x want → OperandFacts p j x
-    operand_facts j x want r =
+    -- the register of what it reads
+    pub operand_register : (j : ℕ) (x : Operand) (want : Want) → Reading e o values h p j x want
+        → (temp_register (model_of e o) values (choice_of values (vars_of p) j x)).0
+        ≡ (let T = temps_of p.block in T.place (choice_of values (vars_of p) j x).0)
+    operand_register j x want r =
+        ap (λ (y : TempId). (temp_register (model_of e o) values y).0) (sym r.is) ∙ register_is e o values h r.spot r.member
+        ∙ ap (λ n. (range_at e o values n).reg) (ap (λ (y : TempId). y.0) r.is)
+
+    -- what it reads was given its definer's latency before
+    abbrev pub IsReady : (j : ℕ) (x : Operand) (want : Want) → Reading e o values h p j x want → Type 0
+    IsReady j x want r =
+        (range_at e o values r.spot.temp.0).from + latency_by e.table (range_at e o values r.spot.temp.0).instr ≤ (issue_at values p).cycle
+
+    -- so it was for all but branches
+    pub ready_for : (op : Op) → (issue_at values p).instr ≡ Some op → is_branch op ≡ false → (j : ℕ) (x : Operand) (want : Want)
+        → (r : Reading e o values h p j x want) → IsReady j x want r
+    ready_for op ins f j x want r = waited_latency e o values h p j x want r
+        (no_branch e.table (range_at e o values r.spot.temp.0).instr (issue_at values p).instr (ap is_branch_in ins ∙ f))
+
+    pub operand_facts : (j : ℕ) (x : Operand) (want : Want) (r : Reading e o values h p j x want) → IsReady j x want r → OperandFacts p j x
+    operand_facts j x want r ready =
         let k = ap (λ (y : TempId). y.0) r.is in
         record {
-          register = ap (λ (y : TempId). (temp_register (model_of e o) values y).0) (sym r.is) ∙ register_is e o values h r.spot r.member
-              ∙ ap (λ n. (range_at e o values n).reg) k;
+          register = operand_register j x want r;
           read = subst (λ n. IsReadAt (temps_of p.block) n (issue_at values p).cycle) k
               (let l = r.last in record {
                 active = active_in r.spot.temp.0 p.block r.active r.there;
-                ready = waited_latency e o values h p j x want r;
+                ready = ready;
                 held = l;
               });
         }
@@ -235,8 +257,8 @@ module _ (e : Ext) (o : Options) (values : List ℕ) (h : Solved e o values) whe
 
     -- all operands, where each is of a kind and in its space
     abbrev pub Fitting : Type 0
-    Fitting = (j : ℕ) (x : Operand) → slice_get p.op.operands j ≡ Some x → (want : Want) × Reading e o values h p j x want
-        × ((let T = temps_of p.block in T.place (temp_of j x) < FIRST_SLOT) × IsPlain (temps_of p.block) (temp_of j x))
+    Fitting = (j : ℕ) (x : Operand) → slice_get p.op.operands j ≡ Some x → (want : Want) × (r : Reading e o values h p j x want)
+        × (IsReady j x want r) × ((let T = temps_of p.block in T.place (temp_of j x) < FIRST_SLOT) × IsPlain (temps_of p.block) (temp_of j x))
 
     pub reads_all : (i : Instr) → i.srcs ≡ operand_registers (model_of e o) values p.op (vars_of p) → Fitting
         → ReadsAll (temps_of p.block) (job_with values p i)
@@ -245,26 +267,29 @@ module _ (e : Ext) (o : Options) (values : List ℕ) (h : Solved e o values) whe
         → OperandFacts p n x = λ n j x q g. subst (λ m. OperandFacts p m x) (sym q) g in
         record {
           srcs = ap numbers s ∙ same_numbers p.op.operands 0 (λ j x q. let r = f j x q in
-              at (0 + j) j x (omega arith) (operand_facts j x r.0 r.1));
+              at (0 + j) j x (omega arith) (operand_facts j x r.0 r.1 r.2));
           read = each_temp (λ n. IsReadAt (temps_of p.block) n (issue_at values p).cycle) p.op.operands 0
-              (λ j x q. let r = f j x q in let g = at (0 + j) j x (omega arith) (operand_facts j x r.0 r.1) in g.read);
+              (λ j x q. let r = f j x q in let g = at (0 + j) j x (omega arith) (operand_facts j x r.0 r.1 r.2) in g.read);
           regs = each_temp (λ n. let T = temps_of p.block in T.place n < FIRST_SLOT) p.op.operands 0
               (λ j x q. let r = f j x q in
-              subst (λ n. let T = temps_of p.block in T.place (temp_of n x) < FIRST_SLOT) (omega arith) (r.2.0));
+              subst (λ n. let T = temps_of p.block in T.place (temp_of n x) < FIRST_SLOT) (omega arith) (r.3.0));
           plain = each_temp (λ n. IsPlain (temps_of p.block) n) p.op.operands 0
-              (λ j x q. let r = f j x q in subst (λ n. IsPlain (temps_of p.block) (temp_of n x)) (omega arith) (r.2.1));
+              (λ j x q. let r = f j x q in subst (λ n. IsPlain (temps_of p.block) (temp_of n x)) (omega arith) (r.3.1));
         }
 
     -- each operand in the space of the kind that is wanted
     fit_by : (op : Op) → (issue_at values p).active ≡ true → (issue_at values p).instr ≡ Some op
         → ((j : ℕ) (want : Want) → slice_get (wants_of e.table e.names e.blocks p.owner p.op.kind p.op) j ≡ Some want
-        → operand_space_in op j ≡ Some (space_for want.kind)) → Fitting
-    fit_by op act i f j x q =
+        → operand_space_in op j ≡ Some (space_for want.kind))
+        → ((j : ℕ) (x : Operand) (want : Want) → slice_get p.op.operands j ≡ Some x
+        → slice_get (wants_of e.table e.names e.blocks p.owner p.op.kind p.op) j ≡ Some want
+        → (r : Reading e o values h p j x want) → IsReady j x want r) → Fitting
+    fit_by op act i f ready j x q =
         let r = reading e o values h p j x m act q in
         let want = r.0 in
         let k = read_kind j x want r.2 in
         let s = read_space j x want op (space_for want.kind) r.2 i (f j want r.1) in
-        (want, r.2, plain_in (temps_of p.block) (temp_of j x) want.kind k s)
+        (want, r.2, ready j x want q r.1 r.2, plain_in (temps_of p.block) (temp_of j x) want.kind k s)
 
     -- ---- results
 
@@ -285,6 +310,7 @@ module _ (e : Ext) (o : Options) (values : List ℕ) (h : Solved e o values) whe
           active = active_in y.0 p.block (ap (λ (v : LiveRange). v.active) r ∙ act) (ap (λ (v : LiveRange). v.block.0) r);
           from = ap (λ (v : LiveRange). v.from) r;
           lat = ap (λ (v : LiveRange). latency_by e.table v.instr) r ∙ ap (latency_by e.table) ins ∙ ap (latency_of e.table) (sym same);
+          compared = ap (λ (v : LiveRange). is_compare_in v.instr) r ∙ ap is_compare_in ins ∙ ap is_compare (sym same);
         }
 
     result_place : (y : TempId) → p.op.results ≡ y ∷ [] → option_map (λ (r : Reg). r.0) (result_register (model_of e o) values p.op) ≡ Some
@@ -344,13 +370,14 @@ module _ (e : Ext) (o : Options) (values : List ℕ) (h : Solved e o values) whe
     wants_plain so _ n = refl
 
     source_fits : (so : SrcOp) → p.op.kind ≡ Body so → (issue_at values p).active ≡ true → (issue_at values p).instr ≡ Some so.op
-        → (so.op ≡ Call → ⊥) → Fitting
-    source_fits so k act ins n = fit_by so.op act ins (λ j want q.
+        → is_source so.op ≡ true → (so.op ≡ Call → ⊥) → Fitting
+    source_fits so k act ins source n = fit_by so.op act ins (λ j want q.
         let w : slice_get (map anywhere (operand_kinds so.op)) j ≡ Some want =
         ap (λ ws. slice_get ws j) (sym (ap (λ (x : ExtKind). wants_of e.table e.names e.blocks p.owner x p.op) k
         ∙ wants_plain so so.op n)) ∙ q in
         let r = get_mapped anywhere (operand_kinds so.op) j want w in
         source_space so.op j r.0 r.1 ∙ ap (λ (x : Want). Some (space_for x.kind)) r.2)
+        (λ j x want q w. ready_for so.op ins (source_branch so.op source) j x want)
 
     call_fits : (so : SrcOp) → p.op.kind ≡ Body so → (issue_at values p).active ≡ true → (issue_at values p).instr ≡ Some so.op
         → so.op ≡ Call → Fitting
@@ -360,6 +387,7 @@ module _ (e : Ext) (o : Options) (values : List ℕ) (h : Solved e o values) whe
         ∙ ap (wants_of_op e.table so) c)) ∙ q in
         let r = get_mapped word_in (take (length so.srcs) (e.table).args) j want w in
         ap (λ (op : Op). operand_space_in op j) c ∙ ap (λ (x : Want). Some (space_for x.kind)) r.2)
+        (λ j x want q w. ready_for so.op ins (ap is_branch c) j x want)
 
     source_kind : (so : SrcOp) (y : TempId) → p.op.kind ≡ Body so → p.op.results ≡ y ∷ []
         → (let T = temps_of p.block in T.kind y.0) ≡ result_kind so.op
@@ -433,7 +461,7 @@ module _ (e : Ext) (o : Options) (values : List ℕ) (h : Solved e o values) whe
             let r = has (λ q. not_op Store q false refl refl a) no_call in
             let y = r.0 in
             let pl = result_plain so y k r.1 ins (result_in so.op a s) in
-            let every = reads_all (plain_instr so so.op) refl (source_fits so k act ins no_call) in
+            let every = reads_all (plain_instr so so.op) refl (source_fits so k act ins s no_call) in
             let g = gives_reg y so (space_for (result_kind so.op)) r.1 act ins pl.0 in
             as_plain no_call (go c f a s no_call y r.1 pl.0 pl.1 every g)
           where
@@ -461,7 +489,7 @@ module _ (e : Ext) (o : Options) (values : List ℕ) (h : Solved e o values) whe
                 let rd = reading e o values h p 0 x m act (ap (λ xs. slice_get xs 0) one.1) in
                 let want_is : rd.0 ≡ anywhere General = let z : Some rd.0 ≡ Some (anywhere General) = sym rd.1
                 ∙ ap (λ ws. slice_get ws 0) wanted in cc z in
-                let of = operand_facts 0 x rd.0 rd.2 in
+                let of = operand_facts 0 x rd.0 rd.2 (ready_for so.op ins (ap is_branch q) 0 x rd.0 rd.2) in
                 let sp = read_space 0 x rd.0 Mov R rd.2 (ins ∙ ap Some q) refl in
                 let place_y = result_space y Mov R ry (ins ∙ ap Some q) refl in
                 moves (temp_of 0 x) y.0 q (record {
@@ -491,13 +519,13 @@ module _ (e : Ext) (o : Options) (values : List ℕ) (h : Solved e o values) whe
             let f : result_space_in so.op ≡ Some (space_for (result_kind so.op)) = ap result_space_in q
             ∙ sym (ap (λ (op : Op). Some (space_for (result_kind op))) q) in
             let pl = result_plain so r.0 k r.1 ins f in
-            as_plain no_call (loads (r.0).0 q (reads_all (plain_instr so so.op) refl (source_fits so k act ins no_call))
+            as_plain no_call (loads (r.0).0 q (reads_all (plain_instr so so.op) refl (source_fits so k act ins good_op.op no_call))
             (gives_reg r.0 so R r.1 act ins pl.0) pl.1)
         by_class (store q) =
             let no_call : so.op ≡ Call → ⊥ = λ c. let z : Store ≡ Call = sym q ∙ c in absurd (cc z) in
             let none : so.dst ≡ None = let g = good_op in subst (λ (op : Op). HasItsResult op so.dst) q g.result in
             let empty : p.op.results ≡ [] = nothing p.op.results (counted ∙ ap (λ (d : Option NameId). length (option_to_list d)) none) in
-            as_plain no_call (stores q (reads_all (plain_instr so so.op) refl (source_fits so k act ins no_call))
+            as_plain no_call (stores q (reads_all (plain_instr so so.op) refl (source_fits so k act ins good_op.op no_call))
             (ap (λ ys. option_map (λ (x : TempId). x.0) (slice_get ys 0)) empty)
             (ap (λ ys. option_map (temp_register (model_of e o) values) (slice_get ys 0)) empty))
           where
@@ -549,16 +577,146 @@ module _ (e : Ext) (o : Options) (values : List ℕ) (h : Solved e o values) whe
         same_space _ op 0 q ∙ ap (λ (x : Want). Some (space_for x.kind)) z
     end_space (Ret value) op (suc j) want q w = absurd (cc w)
 
-    pub deed_end : (slots : ℕ) (term : Term) (op : Op) → p.op.kind ≡ End term → (issue_at values p).active ≡ true
-        → (issue_at values p).instr ≡ Some op → transfer_of term ≡ Some op
-        → Deed e.table (temps_of p.block) slots (job_with values p (term_instr e.blocks term op srcs))
-    deed_end slots term op k act ins q =
-        let ks = keeps in
-        leaves (transfer_leaves term op q)
-        (reads_all (term_instr e.blocks term op srcs) refl (fit_by op act ins
-        (λ j want w. end_space term op j want q (ap (λ ws. slice_get ws j)
-        (sym (ap (λ (x : ExtKind). wants_of e.table e.names e.blocks p.owner x p.op) k)) ∙ w))))
-        refl (no_result (ks.results ∙ ap (result_count e.table p.owner) k))
+    -- whether it is beside what it reads
+    abbrev pub beside : Bool
+    beside = is_beside (schedule_of (model_of e o) values).ranges values p.op (vars_of p)
+
+    module _ (slots : ℕ) (term : Term) (op : Op) (k : p.op.kind ≡ End term) (act : (issue_at values p).active ≡ true)
+        (ins : (issue_at values p).instr ≡ Some op) (q : transfer_of term ≡ Some op) where
+      abbrev emitted : Op
+      emitted = if beside then new_op op else op
+
+      abbrev i : Instr
+      i = term_instr e.blocks term emitted srcs
+
+      end_cycle : (issue_at values p).cycle ≡ value_by values (vars_of p).cycle
+      end_cycle = ap (λ (z : ExtKind). cycle_by values (end_of values p) z (vars_of p)) k
+
+      -- it is where that is given in its own cycle
+      beside_is : (x : Operand) (want : Want) → slice_get p.op.operands 0 ≡ Some x → (r : Reading e o values h p 0 x want)
+          → beside ≡ ((range_at e o values r.spot.temp.0).from == (issue_at values p).cycle)
+      beside_is x want at r =
+          let ranges = (schedule_of (model_of e o) values).ranges in
+          let c = value_by values (vars_of p).cycle in
+          ap (reads_beside ranges values (vars_of p)) at
+          ∙ ap (λ (y : TempId). is_from c (slice_get ranges y.0)) (sym r.is)
+          ∙ ap (is_from c) (range_get e o values (numbered e o values h) r.spot r.member)
+          ∙ ap (λ (v : LiveRange). v.from == c) (sym (range_here e o values (numbered e o values h) r.spot r.member))
+          ∙ ap (λ n. (range_at e o values r.spot.temp.0).from == n) (sym end_cycle)
+
+      -- a terminator has one operand at most
+      first_only : (j : ℕ) (want : Want) → slice_get (wants_of e.table e.names e.blocks p.owner p.op.kind p.op) j ≡ Some want → j ≡ 0
+      first_only j want w = by term j want (ap (λ (x : ExtKind). slice_get (wants_of e.table e.names e.blocks p.owner x p.op) j) (sym k) ∙ w)
+        where
+          by : (term : Term) (j : ℕ) (want : Want) → slice_get (wants_of_end term) j ≡ Some want → j ≡ 0
+          by term zero want w = refl
+          by Fall (suc j) want w = absurd (cc w)
+          by (Jump to) (suc j) want w = absurd (cc w)
+          by (Branch pred sense to) (suc j) want w = absurd (cc w)
+          by (Ret None) (suc j) want w = absurd (cc w)
+          by (Ret (Some name)) (suc j) want w = absurd (cc w)
+
+      -- a predicate that is not beside its branch was given before
+      ready_old : is_new emitted ≡ false → (j : ℕ) (x : Operand) (want : Want) → slice_get p.op.operands j ≡ Some x
+          → slice_get (wants_of e.table e.names e.blocks p.owner p.op.kind p.op) j ≡ Some want
+          → (r : Reading e o values h p j x want) → IsReady j x want r
+      ready_old old zero x want at w r = by (is_fresh_in e.table (range_at e o values r.spot.temp.0).instr (issue_at values p).instr) refl
+        where
+          by : (b : Bool) → is_fresh_in e.table (range_at e o values r.spot.temp.0).instr (issue_at values p).instr ≡ b
+              → IsReady 0 x want r
+          by false f = waited_latency e o values h p 0 x want r f
+          by true f =
+              let facts = fresh_facts e.table (range_at e o values r.spot.temp.0).instr (issue_at values p).instr f in
+              let branch : is_branch op ≡ true = sym (ap is_branch_in ins) ∙ facts.branch in
+              let alone : beside ≡ false = not_beside beside op branch old in
+              let apart : (range_at e o values r.spot.temp.0).from ≢ (issue_at values p).cycle =
+              λ same. let z : true ≡ false =
+              sym (eq-eqb (range_at e o values r.spot.temp.0).from (issue_at values p).cycle same) ∙ sym (beside_is x want at r) ∙ alone in
+              absurd (cc z) in
+              let quick = fresh_quick e.table h.fit (range_at e o values r.spot.temp.0).instr (issue_at values p).instr f in
+              let ready = r.ready in
+              let gap = facts.gap in
+              omega (arith, quick, ready, gap, apart)
+      ready_old old (suc j) x want at w r = let z = first_only (suc j) want w in absurd (omega (arith, z))
+
+      nothing : given_temp p ≡ None
+      nothing = let ks = keeps in no_result (ks.results ∙ ap (result_count e.table p.owner) k)
+
+      leaving : is_transfer emitted ≡ true
+      leaving = sym (transfer_alike (End term) emitted) ∙ ap is_transfer (own_emitted beside (End term) 0 op q) ∙ transfer_leaves term op q
+
+      spaces : (j : ℕ) (want : Want) → slice_get (wants_of e.table e.names e.blocks p.owner p.op.kind p.op) j ≡ Some want
+          → operand_space_in op j ≡ Some (space_for want.kind)
+      spaces j want w = end_space term op j want q
+          (ap (λ ws. slice_get ws j) (sym (ap (λ (x : ExtKind). wants_of e.table e.names e.blocks p.owner x p.op) k)) ∙ w)
+
+      deed_old : is_new emitted ≡ false → Deed e.table (temps_of p.block) slots (job_with values p i)
+      deed_old old = leaves leaving old (reads_all i refl (fit_by op act ins spaces (ready_old old))) refl nothing
+
+      -- a branch reads one predicate
+      one_operand : is_new emitted ≡ true → (x : Operand) × (p.op.operands ≡ x ∷ [])
+      one_operand new = by term k q
+        where
+          Goal : Type 0
+          Goal = (x : Operand) × (p.op.operands ≡ x ∷ [])
+
+          never : (own : Op) → Some own ≡ Some op → ((b : Bool) → is_new (if b then new_op own else own) ≡ false) → Goal
+          never own s f =
+              let same : own ≡ op = cc s in
+              let z : true ≡ false = sym new ∙ ap (λ (x : Op). is_new (if beside then new_op x else x)) (sym same) ∙ f beside in
+              absurd (cc z)
+
+          one : (pred : NameId) (sense : Bool) (to : BlockId) → p.op.kind ≡ End (Branch pred sense to) → Goal
+          one pred sense to kb =
+              let ks = keeps in
+              let wanted : wants_of e.table e.names e.blocks p.owner p.op.kind p.op ≡ anywhere Pred ∷ [] =
+              ap (λ (x : ExtKind). wants_of e.table e.names e.blocks p.owner x p.op) kb in
+              one_zip (IsGoodOperand e.names e.blocks (let g = placed_good e o values h p m in g.before)) p.op.operands (anywhere Pred)
+              (subst (AllZip (IsGoodOperand e.names e.blocks (let g = placed_good e o values h p m in g.before)) p.op.operands) wanted
+              ks.operands)
+
+          by : (term : Term) → p.op.kind ≡ End term → transfer_of term ≡ Some op → Goal
+          by Fall kb s = absurd (cc s)
+          by (Jump to) kb s = never JumpOp s (λ b. elim b as (λ b. is_new (if b then new_op JumpOp else JumpOp) ≡ false)
+              [ true ↦ refl | false ↦ refl ])
+          by (Branch pred sense to) kb s = one pred sense to kb
+          by (Ret value) kb s = never Jumpr s (λ b. elim b as (λ b. is_new (if b then new_op Jumpr else Jumpr) ≡ false)
+              [ true ↦ refl | false ↦ refl ])
+
+      deed_new : is_new emitted ≡ true → Deed e.table (temps_of p.block) slots (job_with values p i)
+      deed_new new =
+          let one = one_operand new in
+          let x = one.0 in
+          let at : slice_get p.op.operands 0 ≡ Some x = ap (λ (xs : List Operand). slice_get xs 0) one.1 in
+          let rd = reading e o values h p 0 x m act at in
+          let r = rd.2 in
+          let n = ap (λ (y : TempId). y.0) r.is in
+          let here : beside ≡ true = new_emitted beside op (own_old term op q) new in
+          let from : (range_at e o values r.spot.temp.0).from ≡ (issue_at values p).cycle =
+          eqb-true (range_at e o values r.spot.temp.0).from (issue_at values p).cycle (sym (beside_is x rd.0 at r) ∙ here) in
+          let fresh : is_fresh_in e.table (range_at e o values r.spot.temp.0).instr (issue_at values p).instr ≡ true =
+          fresh_here e.table h.fit (range_at e o values r.spot.temp.0).instr (issue_at values p).instr (let ready = r.ready in
+          omega (arith, ready, from)) in
+          let facts = fresh_facts e.table (range_at e o values r.spot.temp.0).instr (issue_at values p).instr fresh in
+          let sp = read_space 0 x rd.0 op (space_for (let w = rd.0 in w.kind)) r ins (spaces 0 rd.0 rd.1) in
+          let pl = plain_in (temps_of p.block) (temp_of 0 x) (let w = rd.0 in w.kind) (read_kind 0 x rd.0 r) sp in
+          tests (temp_of 0 x) (record {
+            reads = ap (λ xs. places_from temp_of 0 xs) one.1;
+            active = subst (λ n. let T = temps_of p.block in T.active n ≡ true) n (active_in r.spot.temp.0 p.block r.active r.there);
+            from = subst (λ n. (range_at e o values n).from ≡ (issue_at values p).cycle) n from;
+            srcs = ap (λ xs. numbers (places_from reg_of 0 xs)) one.1 ∙ ap (λ r. r ∷ []) (operand_register 0 x rd.0 r);
+            reg = pl.0;
+            plain = pl.1;
+            compared = subst (λ n. is_compare_in (range_at e o values n).instr ≡ true) n facts.compare;
+            new = new;
+          }) refl nothing
+
+      pub deed_end : Deed e.table (temps_of p.block) slots (job_with values p (term_instr e.blocks term
+          (if beside then new_op op else op) srcs))
+      deed_end = elim (is_new emitted) as (λ b. is_new emitted ≡ b → Deed e.table (temps_of p.block) slots (job_with values p i)) [
+        | true ↦ λ new. deed_new new
+        | false ↦ λ old. deed_old old
+      ] refl
 
     -- ---- Enter and Leave
 
@@ -650,6 +808,7 @@ module _ (e : Ext) (o : Options) (values : List ℕ) (h : Solved e o values) whe
 
         facts : OperandFacts p 0 (let d = c in d.operand)
         facts = let d = c in operand_facts 0 d.operand d.want d.reading
+            (ready_for op ins (copy_branch op (copy_copies (value_by values (vars_of p).instr) op q)) 0 d.operand d.want d.reading)
 
         copies : (i : Instr) → i.op ≡ op → Copies e.table (temps_of p.block) (job_with values p i) x y
         copies i s = let d = c in let f = facts in record {

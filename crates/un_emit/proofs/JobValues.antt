@@ -30,10 +30,10 @@ use Rattle.un_ir.specs.Linear.{Values, World, Effect, Gives, Stops, LinearState,
 use Rattle.un_ir.specs.Linear.{LinearEnd, first_of, value_of, effect_of, effect_by, ops_run, step_by, then_ops, after_effect, loads, stores}
 use Rattle.un_ir.specs.Linear.{calls_with, defined_all}
 use Rattle.un_model.specs.declared.model.Options.{Options}
-use Rattle.un_model.specs.Emission.{source_instr, instr_by, instr_if, frame_of, operand_registers, result_register}
+use Rattle.un_model.specs.Emission.{source_instr, instr_by, instr_if, frame_of, operand_registers, result_register, is_beside, emitted_by}
 use Rattle.un_model.specs.Instructions.{instruction_of, transfer_of, copy_of, frame_instr}
 use Rattle.un_model.specs.Pairs.{places_from}
-use Rattle.un_model.specs.Schedules.{choice_of, value_by}
+use Rattle.un_model.specs.Schedules.{choice_of, value_by, schedule_of}
 use Rattle.un_model.specs.Variables.{model_of}
 use Rattle.un_model.proofs.Lists.{Each, Member, Places, ahead, level, behind, two_places}
 use Rattle.un_model.proofs.Transfers.{transfer_leaves, copy_copies}
@@ -50,6 +50,7 @@ use Rattle.un_emit.proofs.Jobs.{job_with, job_by, instr_at, job_of, jobs_of, rea
 use Rattle.un_emit.proofs.JobDeeds.{copy_parts, TextClass, text_class, alu, load as loading, store as storing, call as calling}
 use Rattle.un_emit.proofs.BlockJobs.{IsJob, some_active, job_is}
 use Rattle.un_emit.proofs.BlockTimed.{only_result}
+use Rattle.un_emit.proofs.Own.{own_op, own_by}
 use Rattle.un_emit.proofs.Values.{effect_value, effect_world, total_by, total, world_by, world_after, Equation, Equations, Runs}
 use Rattle.un_emit.proofs.Values.{FirstsBefore, same_operands, world_step, next}
 
@@ -343,6 +344,27 @@ module _ (e : Ext) (o : Options) (values : List ℕ) (h : Solved e o values) (va
       goes_access Mov t = refl
       goes_access op t = so_fails (is_transfer op) (is_access op) refl t
 
+  -- what a terminator is emitted as
+  end_other : (term : Term) (op : Op) → transfer_of term ≡ Some (own_op op) → IsOther op × (is_copy op ≡ false)
+  end_other term op q =
+      let x = transfer_other term (own_op op) q in
+      let other = x.0 in
+      let access = sym (access_alike op) ∙ other.access in
+      let copy = sym (copy_alike op) ∙ x.1 in
+      (record { access = access; computing = λ a c. other.computing (alu_alike op ∙ a) (copy_alike op ∙ c) }, copy)
+    where
+      access_alike : (op : Op) → is_access (own_op op) ≡ is_access op
+      access_alike Mov = refl
+      access_alike op = refl
+
+      copy_alike : (op : Op) → is_copy (own_op op) ≡ is_copy op
+      copy_alike Mov = refl
+      copy_alike op = refl
+
+      alu_alike : (op : Op) → is_alu (own_op op) ≡ is_alu op
+      alu_alike Mov = refl
+      alu_alike op = refl
+
   shift_other : (f op : Op) (n : ℕ) → frame_instr f n ≡ Some op → IsOther f → is_copy f ≡ false → IsOther op × (is_copy op ≡ false)
   shift_other f op n q x c = go (n == 0) q
     where
@@ -396,9 +418,10 @@ module _ (e : Ext) (o : Options) (values : List ℕ) (h : Solved e o values) (va
   source_job p j so g k =
       let srcs = operand_registers (model_of e o) values p.op (vars_of p) in
       let dst = result_register (model_of e o) values p.op in
+      let b = is_beside (schedule_of (model_of e o) values).ranges values p.op (vars_of p) in
       let made : instr_at (model_of e o) values p ≡ Some (source_instr so so.op srcs dst) =
       ap (λ (x : ExtKind). instr_if (model_of e o) values p.op (vars_of p) (instruction_of x (value_by values (vars_of p).instr))) k
-      ∙ ap (λ (x : ExtKind). instr_by e.blocks (frame_of (model_of e o) values) x so.op srcs dst) k in
+      ∙ ap (λ (x : ExtKind). instr_by e.blocks (frame_of (model_of e o) values) x (emitted_by b x so.op) srcs dst) k in
       let same : Some g.instr ≡ Some (source_instr so so.op srcs dst) = sym g.emitted ∙ made in
       let same' : g.instr ≡ source_instr so so.op srcs dst = cc same in
       let all : j.instr ≡ source_instr so so.op srcs dst = ap (λ (x : Job). x.instr) g.is ∙ same' in
@@ -435,7 +458,7 @@ module _ (e : Ext) (o : Options) (values : List ℕ) (h : Solved e o values) (va
       → Carries p.block → Equation val p w → JobFacts p j w
   source_facts p j w so m g k c eq =
       let parts = source_job p j so g k in
-      let act = some_active e o values h p g.instr.op g.issues in
+      let act = some_active e o values h p (own_by p.op.kind g.instr.op) g.issues in
       let xs = map (value_of val) p.op.operands in
       let mir : Mirrors val j so xs = record {
         op = parts.0;
@@ -460,9 +483,9 @@ module _ (e : Ext) (o : Options) (values : List ℕ) (h : Solved e o values) (va
       }
 
   job_instr : (p : Placed) (j : Job) (k : ExtKind) → IsJob e o values h p j → p.op.kind ≡ k
-      → instruction_of k (value_by values (vars_of p).instr) ≡ Some j.instr.op
+      → instruction_of k (value_by values (vars_of p).instr) ≡ Some (own_by k j.instr.op)
   job_instr p j k g q = ap (λ (x : ExtKind). instruction_of x (value_by values (vars_of p).instr)) (sym q) ∙ g.issues
-      ∙ ap (λ (x : Job). Some x.instr.op) (sym g.is)
+      ∙ ap (λ (x : Job). Some (own_by p.op.kind x.instr.op)) (sym g.is) ∙ ap (λ (x : ExtKind). Some (own_by x j.instr.op)) q
 
   never_copies : (p : Placed) (j : Job) → is_copy j.instr.op ≡ false → (x y : ℕ) → is_copy j.instr.op ≡ true → j.reads ≡ x ∷ []
       → j.gives ≡ Some y → val y ≡ val x
@@ -480,7 +503,7 @@ module _ (e : Ext) (o : Options) (values : List ℕ) (h : Solved e o values) (va
       by_kind In q = let z = job_instr p j In g q in absurd (cc z)
       by_kind Out q = let z = job_instr p j Out g q in absurd (cc z)
       by_kind (End term) q =
-          let x = transfer_other term j.instr.op (job_instr p j (End term) g q) in
+          let x = end_other term j.instr.op (job_instr p j (End term) g q) in
           other_job p j w (not_body (End term) q (λ so r. absurd (cc r))) x.0 (never_copies p j x.1)
       by_kind Enter q =
           let x = shift_other EnterOp j.instr.op (value_by values (vars_of p).instr) (job_instr p j Enter g q)
@@ -492,7 +515,7 @@ module _ (e : Ext) (o : Options) (values : List ℕ) (h : Solved e o values) (va
           other_job p j w (not_body Leave q (λ so r. absurd (cc r))) x.0 (never_copies p j x.1)
       by_kind (Copy node) q =
           let x = copy_other (value_by values (vars_of p).instr) j.instr.op (job_instr p j (Copy node) g q) in
-          let act = some_active e o values h p g.instr.op g.issues in
+          let act = some_active e o values h p (own_by p.op.kind g.instr.op) g.issues in
           other_job p j w (not_body (Copy node) q (λ so r. absurd (cc r))) x (λ a b cp r s.
           let parts = copy_parts e o values h p m node q act in
           let t = head_of p b (ap (λ (x : Job). x.gives) (sym g.is) ∙ s) (let l = ap length parts.results in omega arith) in
@@ -510,7 +533,8 @@ module _ (e : Ext) (o : Options) (values : List ℕ) (h : Solved e o values) (va
       let made : instr_at (model_of e o) values p ≡ Some (source_instr so so.op (operand_registers (model_of e o) values p.op (vars_of p))
       (result_register (model_of e o) values p.op)) =
       ap (λ (x : ExtKind). instr_if (model_of e o) values p.op (vars_of p) (instruction_of x (value_by values (vars_of p).instr))) k
-      ∙ ap (λ (x : ExtKind). instr_by e.blocks (frame_of (model_of e o) values) x so.op
+      ∙ ap (λ (x : ExtKind). instr_by e.blocks (frame_of (model_of e o) values) x
+      (emitted_by (is_beside (schedule_of (model_of e o) values).ranges values p.op (vars_of p)) x so.op)
       (operand_registers (model_of e o) values p.op (vars_of p)) (result_register (model_of e o) values p.op)) k in
       let z = sym q ∙ made in absurd (cc z))
 

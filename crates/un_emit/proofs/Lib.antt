@@ -28,6 +28,7 @@ pub mod Jobs
 pub mod LiveStands
 pub mod OfFunction
 pub mod OfSource
+pub mod Own
 pub mod Packet
 pub mod Places
 pub mod Right
@@ -35,6 +36,7 @@ pub mod Rules
 pub mod RulesCounts
 pub mod RulesEnds
 pub mod RulesFrame
+pub mod RulesFresh
 pub mod RulesInstrs
 pub mod RulesLists
 pub mod RulesOps

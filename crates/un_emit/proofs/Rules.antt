@@ -31,6 +31,7 @@ use Rattle.un_model.proofs.Readings.{Solved, good}
 use Rattle.un_emit.proofs.RulesCounts.{few_packets}
 use Rattle.un_emit.proofs.RulesEnds.{packets, jobs, the_end, timed, AllLead, LastLeaves, transfers_last, targets, ends_by_leaving}
 use Rattle.un_emit.proofs.RulesFrame.{small}
+use Rattle.un_emit.proofs.RulesFresh.{fresh}
 use Rattle.un_emit.proofs.RulesInstrs.{good_instr, named_blocks}
 use Rattle.un_emit.proofs.RulesLists.{all_each, all_pairwise, all_places, contains_at, some_and, range_below}
 use Rattle.un_emit.proofs.RulesRoom.{fit_packet, idle_alone}
@@ -122,6 +123,7 @@ module _ (e : Ext) (o : Options) (values : List ℕ) (h : Solved e o values) whe
           counts = fit_packet e o values h k block r c;
           idle = idle_alone e o values h k block r c;
           one_writer = one_writer e.table temps (words e o values h) c h.fit t.temps (packet_jobs own_jobs c) w;
+          fresh = fresh e.table temps (words e o values h) c (packet_jobs own_jobs c) w;
         }
 
     good_packets : All (IsGoodPacket frame) own_packets

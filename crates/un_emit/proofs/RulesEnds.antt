@@ -14,6 +14,7 @@ use Rattle.un_isa.specs.Does.{is_jump, is_transfer, is_leaving}
 use Rattle.un_isa.proofs.DoesLaws.{jump_transfer}
 use Rattle.un_ir.specs.declared.function.Term.{Term}
 use Rattle.un_ir.specs.declared.function.Term.TheVariants.{Fall, Jump, Branch, Ret}
+use Rattle.un_ir.specs.declared.extended.ExtKind.TheVariants.{End}
 use Rattle.un_ir.specs.declared.extended.ExtBlock.{ExtBlock}
 use Rattle.un_ir.specs.declared.extended.Ext.{Ext}
 use Rattle.un_ir.specs.Linear.{Ending, ending_of}
@@ -28,6 +29,7 @@ use Rattle.un_emit.proofs.BlockTimed.{own_jobs, own_end, here, job_op, block_tim
 use Rattle.un_emit.proofs.Cycles.{packet_of, packets_from, each_packet}
 use Rattle.un_emit.proofs.Exits.{is_false}
 use Rattle.un_emit.proofs.JobDeeds.{temps_of}
+use Rattle.un_emit.proofs.Own.{own_op, own_by, transfer_alike, jump_alike, leaving_alike}
 use Rattle.un_model.proofs.Lists.{Member, each_member, each_of, each_map, any_none, found, member_map, member_filter, slice_get-map}
 use Rattle.un_model.proofs.Placed.{Placed, region_placed}
 use Rattle.un_emit.proofs.Places.{words, placing, any_true}
@@ -142,10 +144,12 @@ module _ (e : Ext) (o : Options) (values : List ℕ) (h : Solved e o values) (k 
           by_jump true q =
               let pm = here e o values h (words e o values h) (placing e o values h) k block r p m in
               let issues = job_op e o values h p j g in
-              let t = transfer_kind e o values h k block r at p j.instr.op m issues (jump_transfer j.instr.op q) in
+              let own = own_by p.op.kind j.instr.op in
+              let t = transfer_kind e o values h k block r at p own m issues
+              (transfer_alike p.op.kind j.instr.op ∙ jump_transfer j.instr.op q) in
               let label = job_label e o values h k block r at p j t.0 g t.1 in
               let inside = end_leads e o values h p pm t.0 t.1 in
-              jump_label e.blocks labels p.block t.0 j.instr.op j.instr.label known inside t.2 q label
+              jump_label e.blocks labels p.block t.0 own j.instr.label known inside t.2 (jump_alike p.op.kind j.instr.op ∙ q) label
 
   in_packet : (j : Job) → Member j jobs → Member j (packet_jobs jobs j.cycle)
   in_packet j m = go (jobs_at jobs j.cycle) (member_filter (issues_at j.cycle) jobs j m (eq-eqb j.cycle j.cycle refl))
@@ -183,4 +187,4 @@ module _ (e : Ext) (o : Options) (values : List ℕ) (h : Solved e o values) (k 
       by_end (one_job p j term mp g tr kp top q) =
           let f = found (λ (j : Job). is_transfer j.instr.op) jobs j tr in
           let l = subst (LeadsIn e.blocks k) (ap (λ (x : Ending). x.term) q) leads in
-          leaves_last j f.0 f.1 (last_leaves e.blocks k term j.instr.op s l top)
+          leaves_last j f.0 f.1 (sym (leaving_alike (End term) j.instr.op) ∙ last_leaves e.blocks k term (own_op j.instr.op) s l top)

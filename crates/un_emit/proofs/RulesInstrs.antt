@@ -33,19 +33,20 @@ use Rattle.un_model.specs.declared.model.Options.{Options}
 use Rattle.un_model.specs.declared.schedule.LiveRange.{LiveRange}
 use Rattle.un_model.specs.Cost.{value_of}
 use Rattle.un_model.specs.Emission.{temp_register, operand_registers, result_register, source_instr, term_instr, copy_instr, stack_instr}
-use Rattle.un_model.specs.Emission.{instr_by, instr_if, frame_of, frame_bytes, largest_slot}
+use Rattle.un_model.specs.Emission.{instr_by, instr_if, frame_of, frame_bytes, largest_slot, new_op, is_beside, emitted_by}
 use Rattle.un_model.specs.Instructions.{instruction_of, transfer_of, frame_instr, result_space_in}
 use Rattle.un_model.specs.Pairs.{places_from}
 use Rattle.un_ir.specs.Kinds.{is_frame_op}
-use Rattle.un_model.specs.Schedules.{choice_of, instr_of, value_by}
+use Rattle.un_model.specs.Schedules.{choice_of, instr_of, value_by, schedule_of}
 use Rattle.un_model.specs.Solutions.{HasFrame, HasHome}
 use Rattle.un_model.specs.Variables.{model_of}
 use Rattle.un_packet.specs.CodeRules.{IsGoodInstr, number}
 use Rattle.un_packet.proofs.Rules.{at_all}
 use Rattle.un_emit.proofs.BlockEdges.{ends_by}
-use Rattle.un_emit.proofs.BlockJobs.{IsJob, active_of, some_active}
+use Rattle.un_emit.proofs.BlockJobs.{IsJob, some_active}
+use Rattle.un_emit.proofs.Own.{own_op, own_emitted}
 use Rattle.un_emit.proofs.JobDeeds.{TextClass, text_class, alu, load as loading, store as storing, call as calling, space_for, result_in}
-use Rattle.un_emit.proofs.JobDeeds.{operand_facts, read_space, result_spot, result_space as given_in, one_result, has_result, CopyParts}
+use Rattle.un_emit.proofs.JobDeeds.{operand_register, read_space, result_spot, result_space as given_in, one_result, has_result, CopyParts}
 use Rattle.un_emit.proofs.JobDeeds.{copy_parts}
 use Rattle.un_model.proofs.Lists.{Each, Member, each_member, each_more, member_at, member_map, slice_get-map}
 use Rattle.un_model.proofs.Placed.{Placed, vars_of, issue_at, spot, spots_of}
@@ -138,8 +139,7 @@ module _ (e : Ext) (o : Options) (values : List ℕ) (h : Solved e o values) whe
         → slice_get (operand_spaces op) j ≡ Some s → space_of (reg_at j x).0 ≡ s
     read_at op act ins j x s q r =
         let rd = reading e o values h p j x m act q in
-        let f = operand_facts e o values h p m j x rd.0 rd.2 in
-        ap space_of f.register ∙ read_space e o values h p m j x rd.0 op s rd.2 ins (space_listed op j s r)
+        ap space_of (operand_register e o values h p m j x rd.0 rd.2) ∙ read_space e o values h p m j x rd.0 op s rd.2 ins (space_listed op j s r)
 
     spaces_by : (xs : List Operand) (spaces : List Space) (k : ℕ) → length xs ≡ length spaces
         → ((j : ℕ) (x : Operand) (s : Space) → slice_get xs j ≡ Some x → slice_get spaces j ≡ Some s → space_of (reg_at (k + j) x).0 ≡ s)
@@ -168,12 +168,12 @@ module _ (e : Ext) (o : Options) (values : List ℕ) (h : Solved e o values) whe
     meant_at : Acts → (j : ℕ) (x : Operand) → slice_get p.op.operands j ≡ Some x → IsMeant (reg_at j x)
     meant_at act j x q =
         let rd = reading e o values h p j x m act q in
-        let f = operand_facts e o values h p m j x rd.0 rd.2 in
-        let r = f.read in
+        let r = rd.2 in
         let n = (temp_at j x).0 in
-        let a = (active_of e o values h n p.block r.active).0 in
+        let a : (range_at e o values n).active ≡ true =
+        subst (λ (t : TempId). (range_at e o values t.0).active ≡ true) r.is r.active in
         let s = not_stack e o values h n a in
-        let g = f.register in
+        let g = operand_register e o values h p m j x rd.0 r in
         (λ z. s (sym g ∙ z), subst IsLow (sym g) (low e o values h n a))
 
     each_reg : (Q : Reg → Type 0) (xs : List Operand) (k : ℕ) → ((j : ℕ) (x : Operand) → slice_get xs j ≡ Some x → Q (reg_at (k + j) x))
@@ -247,7 +247,6 @@ module _ (e : Ext) (o : Options) (values : List ℕ) (h : Solved e o values) whe
         → (reg_at j x).0 ≡ j
     arg_at so k c act j x q =
         let rd = reading e o values h p j x m act q in
-        let f = operand_facts e o values h p m j x rd.0 rd.2 in
         let r = rd.2 in
         let n = length so.srcs in
         let v = range_at e o values (temp_at j x).0 in
@@ -255,7 +254,7 @@ module _ (e : Ext) (o : Options) (values : List ℕ) (h : Solved e o values) whe
         let got : option_map word_in (slice_get (args_to n) j) ≡ Some rd.0 =
         sym (slice_get-map word_in (args_to n) j) ∙ ap (λ ws. slice_get ws j) (sym listed) ∙ rd.1 in
         let home = subst (λ (t : TempId). HasHome (let w = rd.0 in w.home) (range_at e o values t.0)) r.is r.home in
-        f.register ∙ arg_home n j (slice_get (args_to n) j) rd.0 v refl got home
+        operand_register e o values h p m j x rd.0 r ∙ arg_home n j (slice_get (args_to n) j) rd.0 v refl got home
 
     -- ---- an operation of the source
 
@@ -340,17 +339,25 @@ module _ (e : Ext) (o : Options) (values : List ℕ) (h : Solved e o values) whe
         subst (LeadsIn e.blocks p.block) t (gb.leads p.block p.owner g.here)
 
     good_end : (term : Term) (op : Op) → p.op.kind ≡ End term → Acts → Issues op → transfer_of term ≡ Some op
-        → Good (term_instr e.blocks term op srcs)
-    good_end term op k act ins q =
-        let f = end_facts frame e.blocks p.block term op q in
+        → (b : Bool) → Good (term_instr e.blocks term (if b then new_op op else op) srcs)
+    good_end term op k act ins q b =
+        let emitted : Op = if b then new_op op else op in
+        let own = own_emitted b (End term) 0 op q in
+        let f = end_facts frame e.blocks p.block term emitted (q ∙ ap Some (sym own)) in
+        let spaces : operand_spaces op ≡ operand_spaces emitted = ap operand_spaces (sym own) ∙ spaces_alike emitted in
         record {
-          reads = reads_plain op srcs f.plain (reads_spaces op act ins (count_by (End term) k ∙ f.count));
-          writes = writes_plain op None f.plain (sym f.result);
+          reads = reads_plain emitted srcs f.plain
+              (reads_spaces op act ins (count_by (End term) k ∙ f.count ∙ ap length (sym spaces)) ∙ spaces);
+          writes = writes_plain emitted None f.plain (sym f.result);
           stack = λ z. absurd (cc z);
-          base = base_of op srcs (srcs_safe act);
+          base = base_of emitted srcs (srcs_safe act);
           literal = f.literal;
           label = f.label named_blocks (end_leads term k);
         }
+      where
+        spaces_alike : (op : Op) → operand_spaces (own_op op) ≡ operand_spaces op
+        spaces_alike Mov = refl
+        spaces_alike op = refl
 
     -- ---- a copy
 
@@ -474,14 +481,17 @@ module _ (e : Ext) (o : Options) (values : List ℕ) (h : Solved e o values) whe
         with_kind : (k : ExtKind) → p.op.kind ≡ k → instruction_of k number ≡ Some op
         with_kind k s = ap (λ (x : ExtKind). instruction_of x number) (sym s) ∙ q
 
-        by_kind : (k : ExtKind) → p.op.kind ≡ k → Each Good (option_to_list (instr_by e.blocks frame k op srcs dst))
+        b : Bool
+        b = is_beside (schedule_of (model_of e o) values).ranges values p.op (vars_of p)
+
+        by_kind : (k : ExtKind) → p.op.kind ≡ k → Each Good (option_to_list (instr_by e.blocks frame k (emitted_by b k op) srcs dst))
         by_kind In s = tt
         by_kind Out s = tt
         by_kind (Body so) s =
             let f = with_kind (Body so) s in
             let same : so.op ≡ op = cc f in
             (subst (λ (x : Op). Good (source_instr so x srcs dst)) same (good_body so s act (q ∙ ap Some (sym same))), tt)
-        by_kind (End term) s = (good_end term op s act q (with_kind (End term) s), tt)
+        by_kind (End term) s = (good_end term op s act q (with_kind (End term) s) b, tt)
         by_kind (Copy node) s = (good_copy node op s act q (copy_is number op (with_kind (Copy node) s)), tt)
         by_kind Enter s = (good_enter op (frame_is EnterOp op number (with_kind Enter s)) (positive (ap is_frame_op s) act), tt)
         by_kind Leave s = (good_leave op (frame_is LeaveOp op number (with_kind Leave s)) (positive (ap is_frame_op s) act), tt)

@@ -9,7 +9,7 @@ use Rattle.un_isa.specs.Operands.{HasLiteral}
 use Rattle.un_isa.specs.Registers.{space_of}
 use Rattle.un_isa.specs.declared.op.Op.{Op}
 use Rattle.un_isa.specs.declared.op.Op.TheVariants.{Mov, Load, Store, Call, Spill, Reload, P2R}
-use Rattle.un_isa.specs.declared.op.Op.TheVariants.{R2P, Enter, Leave, Nop}
+use Rattle.un_isa.specs.declared.op.Op.TheVariants.{R2P, Enter, Leave, Nop, JumpIfNew, JumpIfNotNew}
 use Rattle.un_isa.specs.declared.does.Does.{Does}
 use Rattle.un_isa.specs.declared.does.Does.TheVariants.{Calls, Jumps}
 use Rattle.un_isa.specs.declared.reg.Reg.{Reg}
@@ -34,6 +34,7 @@ use Rattle.un_packet.specs.CodeRules.{ReadsItsSpaces, WritesItsSpace, HasItsNumb
 use Rattle.un_emit.proofs.BlockEdges.{EndsBy, falls, ends}
 use Rattle.un_model.proofs.Lists.{Each, Member, each_member, get_below}
 use Rattle.un_emit.proofs.RulesFrame.{IsLow}
+use Rattle.un_emit.proofs.Own.{own_op}
 
 -- the spaces of registers
 abbrev pub spaces_of : List Reg → List Space
@@ -172,37 +173,49 @@ same_end : (frame : ℕ) (blocks : List ExtBlock) (b : ℕ) (term : Term) (own o
     → EndFacts frame blocks b term own → EndFacts frame blocks b term op
 same_end frame blocks b term own op q facts = let k : own ≡ op = cc q in subst (EndFacts frame blocks b term) k facts
 
-pub end_facts : (frame : ℕ) (blocks : List ExtBlock) (b : ℕ) (term : Term) (op : Op) → transfer_of term ≡ Some op
+own_facts : (frame : ℕ) (blocks : List ExtBlock) (b : ℕ) (term : Term) (op : Op) → transfer_of term ≡ Some op
     → EndFacts frame blocks b term op
-end_facts frame blocks b Fall op q = absurd (cc q)
-end_facts frame blocks b (Jump to) op q = same_end frame blocks b (Jump to) _ op q (record {
+own_facts frame blocks b Fall op q = absurd (cc q)
+own_facts frame blocks b (Jump to) op q = same_end frame blocks b (Jump to) _ op q (record {
   count = refl;
   plain = λ z. absurd (cc z);
   result = refl;
   literal = refl;
   label = λ named l. label_there blocks to named (l 0 0 (omega arith)).1;
 })
-end_facts frame blocks b (Branch pred true to) op q = same_end frame blocks b (Branch pred true to) _ op q (record {
+own_facts frame blocks b (Branch pred true to) op q = same_end frame blocks b (Branch pred true to) _ op q (record {
   count = refl;
   plain = λ z. absurd (cc z);
   result = refl;
   literal = refl;
   label = λ named l. label_there blocks to named (l 1 0 (omega arith)).1;
 })
-end_facts frame blocks b (Branch pred false to) op q = same_end frame blocks b (Branch pred false to) _ op q (record {
+own_facts frame blocks b (Branch pred false to) op q = same_end frame blocks b (Branch pred false to) _ op q (record {
   count = refl;
   plain = λ z. absurd (cc z);
   result = refl;
   literal = refl;
   label = λ named l. label_there blocks to named (l 1 0 (omega arith)).1;
 })
-end_facts frame blocks b (Ret value) op q = same_end frame blocks b (Ret value) _ op q (record {
+own_facts frame blocks b (Ret value) op q = same_end frame blocks b (Ret value) _ op q (record {
   count = refl;
   plain = λ z. absurd (cc z);
   result = refl;
   literal = refl;
   label = λ named l. refl;
 })
+
+-- and of what it is emitted as
+pub end_facts : (frame : ℕ) (blocks : List ExtBlock) (b : ℕ) (term : Term) (op : Op) → transfer_of term ≡ Some (own_op op)
+    → EndFacts frame blocks b term op
+end_facts frame blocks b term op q = by op (own_facts frame blocks b term (own_op op) q)
+  where
+    by : (op : Op) → EndFacts frame blocks b term (own_op op) → EndFacts frame blocks b term op
+    by JumpIfNew f =
+        record { count = f.count; plain = λ z. absurd (cc z); result = refl; literal = f.literal; label = f.label }
+    by JumpIfNotNew f =
+        record { count = f.count; plain = λ z. absurd (cc z); result = refl; literal = f.literal; label = f.label }
+    by _ f = f
 
 -- an End of a block is how the block ends
 pub only_end : (ops : List ExtOp) (op : ExtOp) (term : Term) → EndsBy ops → Member op ops → op.kind ≡ End term

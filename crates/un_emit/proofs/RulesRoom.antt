@@ -34,6 +34,7 @@ use Rattle.un_packet.specs.CodeRules.{needs_of}
 use Rattle.un_emit.proofs.BlockJobs.{InRegion, job_is, each_job}
 use Rattle.un_emit.proofs.BlockTimed.{own_jobs, its_block, here, job_op}
 use Rattle.un_emit.proofs.Jobs.{job_with, job_by, instr_at, jobs_of}
+use Rattle.un_emit.proofs.Own.{own_by, class_alike, nop_alike}
 use Rattle.un_model.proofs.Lists.{Each, Member, each_of, each_map, each_filter, any_none}
 use Rattle.un_model.proofs.Placed.{Placed, vars_of, issue_at, issues_are, region_placed}
 use Rattle.un_emit.proofs.Places.{words, placing}
@@ -101,7 +102,8 @@ module _ (e : Ext) (o : Options) (values : List ℕ) (h : Solved e o values) (k 
   abbrev jobs_in : List Placed → List Job
   jobs_in ps = jobs_of (model_of e o) values ps
 
-  module _ (f : Op → ℕ) (res : Resource) (need : (op : Op) → f op ≤ share_of e.table res (Some op)) (c : ℕ) where
+  module _ (f : Op → ℕ) (res : Resource) (alike : (kind : ExtKind) (op : Op) → f (own_by kind op) ≡ f op)
+      (need : (op : Op) → f op ≤ share_of e.table res (Some op)) (c : ℕ) where
     abbrev takes : Placed → ℕ
     takes p = if issues_in k c (issue_at values p) then share_of e.table res (issue_at values p).instr else 0
 
@@ -124,11 +126,13 @@ module _ (e : Ext) (o : Options) (values : List ℕ) (h : Solved e o values) (k 
                 let job = job_is e o values h p (Some i) j q (inl refl) in
                 let now : issues_in k c (issue_at values p) ≡ true =
                 and_from (p.block == k) ((issue_at values p).cycle == c) (eq-eqb p.block k g.0) s in
-                let share : takes p ≡ share_of e.table res (Some i.op) =
+                let own = own_by p.op.kind i.op in
+                let share : takes p ≡ share_of e.table res (Some own) =
                 ap (λ (b : Bool). if b then share_of e.table res (issue_at values p).instr else 0) now
                 ∙ ap (share_of e.table res) (job_op e o values h p j job) in
-                let n = need i.op in
-                omega (arith, share, n, le)
+                let same : f own ≡ f i.op = alike p.op.kind i.op in
+                let n = need own in
+                omega (arith, share, same, n, le)
             by_cycle false s = omega (arith, le)
 
     room : taken e.table res (issues_of (model_of e o) values) k c ≤ places_of res
@@ -163,13 +167,13 @@ module _ (e : Ext) (o : Options) (values : List ℕ) (h : Solved e o values) (k 
       → least_of f Nop ≤ places_of res → sum_by f (map needs_of (instrs (packet_jobs jobs c))) ≤ places_of res
   needed f res c need nop =
       let s = needs_sum f (packet_jobs jobs c) in
-      let z = fits (least_of f) res need c nop in omega (arith, s, z)
+      let z = fits (least_of f) res (λ kind op. ap (λ cl. f (least_needs cl)) (class_alike kind op)) need c nop in omega (arith, s, z)
 
   pub fit_packet : (c : ℕ) → FitPacket (map needs_of (instrs (packet_jobs jobs c)))
   fit_packet c = record {
     instructions =
         let l = needs_length (packet_jobs jobs c) in
-        let z = fits (λ op. 1) Instructions (λ op. omega arith) c (omega arith) in omega (arith, l, z);
+        let z = fits (λ op. 1) Instructions (λ kind op. refl) (λ op. omega arith) c (omega arith) in omega (arith, l, z);
     mem = needed (λ (n : Needs). n.mem) Memory c (λ op. let x = needs_at_least e.table h.fit op in let y = x.mem in y.0) (omega arith);
     store = needed (λ (n : Needs). n.store) Stores c (λ op. let x = needs_at_least e.table h.fit op in let y = x.store in y.0) (omega arith);
     xc = needed (λ (n : Needs). n.xc) MultiplyOrControl c (λ op. let x = needs_at_least e.table h.fit op in let y = x.xc in y.0) (omega arith);
@@ -181,7 +185,8 @@ module _ (e : Ext) (o : Options) (values : List ℕ) (h : Solved e o values) (k 
       let pm = here e o values h (words e o values h) (placing e o values h) k block r p m in
       let good = placed_good e o values h p pm in
       let ks = good.keeps in
-      busy p.op.kind (value_by values (vars_of p).instr) j.instr.op p.op ks.kind (job_op e o values h p j g))
+      sym (nop_alike p.op.kind j.instr.op)
+      ∙ busy p.op.kind (value_by values (vars_of p).instr) (own_by p.op.kind j.instr.op) p.op ks.kind (job_op e o values h p j g))
 
   pub idle_alone : (c : ℕ) → OnTrue (has_nop (packet_jobs jobs c)) (length (instrs (packet_jobs jobs c)) ≡ 1)
   idle_alone c = alone c (jobs_at jobs c) (each_filter IsBusy (issues_at c) jobs none_idle)

@@ -12,12 +12,13 @@ use Rattle.un_ir.specs.Extended.{Want, word_in, wants_of, wants_of_out, IsGoodOp
 use Rattle.un_emit.proofs.FramePlace.{held_reg}
 use Rattle.un_emit.proofs.BlockStarts.{calls_fit}
 use Rattle.un_emit.proofs.BlockEnds.{out_op, owner_of}
+use Rattle.un_emit.proofs.Own.{own_op}
 use Rattle.un_model.proofs.Readings.{placed_good, placed_domains}
 use Rattle.un_base.specs.declared.ids.TempId.{TempId}
 use Rattle.un_base.specs.declared.ids.VarId.{VarId}
 use Rattle.un_isa.specs.Registers.{callee_saved}
 use Rattle.un_isa.specs.declared.op.Op.{Op}
-use Rattle.un_isa.specs.declared.op.Op.TheVariants.{Call}
+use Rattle.un_isa.specs.declared.op.Op.TheVariants.{Imm, Call}
 use Rattle.un_isa.specs.declared.outcome.CallRecord.{CallRecord}
 use Rattle.un_isa.specs.declared.reg.TheConstants.{STACK, REGISTERS}
 use Rattle.un_ir.specs.Live.{targets_of}
@@ -459,17 +460,23 @@ module _ (e : Ext) (o : Options) (values : List ℕ) (h : Solved e o values) whe
                 → (let z = ending_of block.ops in Contains (targets_of k z.term) c)
             to_term t q c y = subst (λ (z : Term). Contains (targets_of k z) c) (sym (ap (λ (z : Ending). z.term) eq ∙ q)) y
 
-            op_is : (op : Op) → Some op ≡ Some j.instr.op → j.instr.op ≡ op
-            op_is op q = let z : op ≡ j.instr.op = cc q in sym z
+            op_is : (op : Op) → Some op ≡ Some (own_op j.instr.op) → own_op j.instr.op ≡ op
+            op_is op q = let z : op ≡ own_op j.instr.op = cc q in sym z
+
+            -- what tests a predicate of its own packet leads where a branch does
+            exit_alike : (op : Op) (v : ℕ) → exit_by (own_op op) v j.instr.label u ≡ exit_by op v j.instr.label u
+            exit_alike Imm v = refl
+            exit_alike op v = refl
 
             -- a choice by what is not so
             swapped : (b : Bool) (x y : PacketStep) → (if not b then x else y) ≡ (if b then y else x)
             swapped true x y = refl
             swapped false x y = refl
 
-            exit_is : (op : Op) → j.instr.op ≡ op → exit_of (transfer_of x.jobs) (first_read x.val) u ≡ exit_by op
+            exit_is : (op : Op) → own_op j.instr.op ≡ op → exit_of (transfer_of x.jobs) (first_read x.val) u ≡ exit_by op
                 (slice_index (map (value_of (let q = after in q.values)) p.op.operands) 0) (label_of e.blocks term) u
-            exit_is op q = f ∙ ap (λ (z : Op). exit_by z (first_read x.val j) j.instr.label u) q
+            exit_is op q = f ∙ sym (exit_alike j.instr.op (first_read x.val j))
+                ∙ ap (λ (z : Op). exit_by z (first_read x.val j) j.instr.label u) q
                 ∙ ap (λ n. exit_by op n j.instr.label u) v_is ∙ ap
                 (λ (l : Option (List ℕ)). exit_by op (slice_index (map (value_of (let q = after in q.values)) p.op.operands) 0) l u) label
 
@@ -496,12 +503,12 @@ module _ (e : Ext) (o : Options) (values : List ℕ) (h : Solved e o values) whe
             branching_not true c e1 e2 = jumping c (unwrap_or (option_map (λ (b : ExtBlock). b.label) (slice_get e.blocks c)) []) e2
                 (label_leads c e2)
 
-            exit_term : (t : Term) (op : Op) → term ≡ t → j.instr.op ≡ op → exit_of (transfer_of x.jobs) (first_read x.val) u
+            exit_term : (t : Term) (op : Op) → term ≡ t → own_op j.instr.op ≡ op → exit_of (transfer_of x.jobs) (first_read x.val) u
                 ≡ exit_by op (slice_index read 0) (label_of e.blocks t) u
             exit_term t op q is = exit_is op is ∙ ap (λ (t : Term). exit_by op (slice_index read 0) (label_of e.blocks t) u) q
 
             by_term : (t : Term) → term ≡ t → Good (suc n) k taken w s
-            by_term Fall q = let z : None ≡ Some j.instr.op = ap transfer_op_of (sym q) ∙ tj in absurd (cc z)
+            by_term Fall q = let z : None ≡ Some (own_op j.instr.op) = ap transfer_op_of (sym q) ∙ tj in absurd (cc z)
             by_term (Jump to) q =
                 let op = op_is _ (ap transfer_op_of (sym q) ∙ tj) in
                 let edge = to_term (Jump to) q to.0 (0, omega arith, refl) in

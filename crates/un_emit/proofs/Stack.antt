@@ -6,7 +6,8 @@ use Rattle.un_model.specs.Variables.{var_at, var_count, ops_count}
 use Rattle.un_emit.proofs.Exits.{is_false}
 use Rattle.un_emit.proofs.Holds.{Stacks, uses_frame}
 use Rattle.un_model.proofs.OpDomains.{flag_sits}
-use Rattle.un_emit.proofs.BlockTimed.{own_end, block_timed, shift_kind, fold_with, once, flag_set, frame_apart, has_job}
+use Rattle.un_emit.proofs.BlockTimed.{own_end, block_timed, shift_job, fold_with, once, flag_set, frame_apart, has_job, job_op, job_itself}
+use Rattle.un_emit.proofs.Own.{own_op, own_by, stack_alike}
 use Rattle.std.specs.Prelude.{Option, Some, None, slice_get, fold, nat_eq, nat_le, ◌==◌, is_some, if◌then◌else◌, IfSome, count_by}
 use Rattle.std.specs.List.{list_any}
 use Rattle.std.specs.Option.{option_map}
@@ -24,10 +25,11 @@ use Rattle.un_ir.specs.declared.extended.Ext.{Ext}
 use Rattle.un_ir.specs.Extended.{is_enter, is_leave, one_if, returns}
 use Rattle.un_model.specs.declared.model.Options.{Options}
 use Rattle.un_model.specs.Emission.{frame_bytes, largest_slot, frame_of, instr_if, instr_by, operand_registers, result_register}
+use Rattle.un_model.specs.Emission.{is_beside, emitted_by}
 use Rattle.un_model.specs.Cost.{value_of}
 use Rattle.un_model.specs.Instructions.{instruction_of, frame_instr}
 use Rattle.un_ir.specs.Kinds.{is_frame_op, is_delimiter}
-use Rattle.un_model.specs.Schedules.{value_by, instr_of, issues_of}
+use Rattle.un_model.specs.Schedules.{value_by, instr_of, issues_of, schedule_of}
 use Rattle.un_model.specs.declared.schedule.Issue.{Issue}
 use Rattle.un_model.specs.Solutions.{frame_distance, HasFrame, is_frame_access, starts_in_slot}
 use Rattle.un_model.specs.Variables.{model_of}
@@ -294,7 +296,9 @@ module _ (e : Ext) (o : Options) (values : List ℕ) (h : Solved e o values) (k 
           → (let i = g.instr in i.imm ≡ neg_ℤ (pos bytes))
       go None s = absurd (cc s)
       go (Some op) s =
-          let made = ap (λ (y : ExtKind). instr_by e.blocks bytes y op (operand_registers (model_of e o) values p.op (vars_of p))
+          let b = is_beside (schedule_of (model_of e o) values).ranges values p.op (vars_of p) in
+          let made = ap (λ (y : ExtKind). instr_by e.blocks bytes y (emitted_by b y op)
+          (operand_registers (model_of e o) values p.op (vars_of p))
           (result_register (model_of e o) values p.op)) (sym q) ∙ s in
           let k = ap (λ (x : Option Instr). option_map (λ (y : Instr). y.imm) x) made in sym (cc k)
 
@@ -304,7 +308,9 @@ module _ (e : Ext) (o : Options) (values : List ℕ) (h : Solved e o values) (k 
       go : (x : Option Op) → instr_if (model_of e o) values p.op (vars_of p) x ≡ Some g.instr → (let i = g.instr in i.imm ≡ pos bytes)
       go None s = absurd (cc s)
       go (Some op) s =
-          let made = ap (λ (y : ExtKind). instr_by e.blocks bytes y op (operand_registers (model_of e o) values p.op (vars_of p))
+          let b = is_beside (schedule_of (model_of e o) values).ranges values p.op (vars_of p) in
+          let made = ap (λ (y : ExtKind). instr_by e.blocks bytes y (emitted_by b y op)
+          (operand_registers (model_of e o) values p.op (vars_of p))
           (result_register (model_of e o) values p.op)) (sym q) ∙ s in
           let k = ap (λ (x : Option Instr). option_map (λ (y : Instr). y.imm) x) made in sym (cc k)
 
@@ -367,7 +373,7 @@ module _ (e : Ext) (o : Options) (values : List ℕ) (h : Solved e o values) (k 
   module _ (base : ℕ) (room : base + bytes < 2 ^ 32) where
     -- an active operation of a job, with its cycle
     job_active : (p : Placed) (j : Job) → IsJob e o values h p j → (issue_at values p).active ≡ true
-    job_active p j g = let i = g.instr in some_active e o values h p i.op g.issues
+    job_active p j g = let i = g.instr in some_active e o values h p (own_by p.op.kind i.op) g.issues
 
     cycle_of_job : (p : Placed) (j : Job) → IsJob e o values h p j → (issue_at values p).cycle ≡ j.cycle
     cycle_of_job p j g = ap (λ (x : Job). x.cycle) (sym g.is)
@@ -423,9 +429,6 @@ module _ (e : Ext) (o : Options) (values : List ℕ) (h : Solved e o values) (k 
     frame_op_nop : (j : Job) → uses_frame j.instr.op ≡ true → j.instr.op ≡ Nop → ⊥
     frame_op_nop j s q = let z : true ≡ false = sym s ∙ ap uses_frame q in absurd (cc z)
 
-    job_instr : (p : Placed) (j : Job) → IsJob e o values h p j → (issue_at values p).instr ≡ Some j.instr.op
-    job_instr p j g = g.issues ∙ ap (λ (x : Job). Some x.instr.op) (sym g.is)
-
     -- an Enter or Leave of the cycle is a job of the packet that moves the stack pointer
     moves_here : (p : Placed) (op : Op) (c : ℕ) → Member p own_ops → (p.op.kind ≡ In → ⊥) → (p.op.kind ≡ Out → ⊥)
         → (issue_at values p).active ≡ true → (issue_at values p).instr ≡ Some op → moves_stack op ≡ true
@@ -434,9 +437,9 @@ module _ (e : Ext) (o : Options) (values : List ℕ) (h : Solved e o values) (k 
         let z = has_job e o values h (words e o values h) (placing e o values h) k block r p m a ni nt in
         let j = z.0 in
         let mem = to_packet (c + 1) j z.1 (sym (cycle_of_job p j z.2) ∙ n) in
-        let same : Some j.instr.op ≡ Some op = sym (job_instr p j z.2) ∙ i in
-        let same' : j.instr.op ≡ op = cc same in
-        let y : true ≡ false = sym (ap moves_stack same' ∙ s) ∙ each_member (λ (j : Job). moves_stack j.instr.op ≡ false)
+        let same : Some (own_by p.op.kind j.instr.op) ≡ Some op = sym (job_op e o values h p j z.2) ∙ i in
+        let same' : own_by p.op.kind j.instr.op ≡ op = cc same in
+        let y : true ≡ false = sym (ap moves_stack same' ∙ s) ∙ stack_alike p.op.kind j.instr.op ∙ each_member (λ (j : Job). moves_stack j.instr.op ≡ false)
         (packet_jobs jobs (c + 1)) j none mem in absurd (cc y)
 
     kind_not : (test : ExtKind → Bool) (p : Placed) (x : ExtKind) → test p.op.kind ≡ true → test x ≡ false → p.op.kind ≡ x → ⊥
@@ -459,10 +462,10 @@ module _ (e : Ext) (o : Options) (values : List ℕ) (h : Solved e o values) (k 
             (ap is_frame_access i ∙ q) in
             used (ap (λ (b : Bool). b || list_any starts_in_slot (the_ranges e o values)) y)
 
-        by_access : (op : Op) → j.instr.op ≡ op → is_frame_access (Some op) ≡ true → frame_distance (Some op) (Some LeaveOp) ≡ Some 0
+        by_access : (op : Op) → own_op op ≡ op → j.instr.op ≡ op → is_frame_access (Some op) ≡ true → frame_distance (Some op) (Some LeaveOp) ≡ Some 0
             → frame_distance (Some EnterOp) (Some op) ≡ Some 1 → stack_of base c ≡ base
-        by_access op q f d d' =
-            let i = job_instr p j g ∙ ap Some q in
+        by_access op own q f d d' =
+            let i = job_itself e o values h p j op g own q in
             let fl = flag op i f in
             let cp = cycle_of_job p j g in
             entered_by c fl (done_false is_leave c (λ x mx tx ax. let z = apart_by p x op LeaveOp 0 m mx fl i (leave_instr x tx ax) d in
@@ -470,8 +473,8 @@ module _ (e : Ext) (o : Options) (values : List ℕ) (h : Solved e o values) (k 
             (λ x mx tx ax. let z = apart_by x p EnterOp op 1 mx m fl (enter_instr x tx ax) i d' in omega arith)
 
         by_op : (op : Op) → j.instr.op ≡ op → uses_frame op ≡ true → stack_of base c ≡ base
-        by_op Spill q u = by_access Spill q refl refl refl
-        by_op Reload q u = by_access Reload q refl refl refl
+        by_op Spill q u = by_access Spill refl q refl refl refl
+        by_op Reload q u = by_access Reload refl q refl refl refl
         by_op _ q u = absurd (cc u)
 
     pub stacks : (c : ℕ) → Stacks (stack_of base) base c (packet_jobs jobs (c + 1))
@@ -481,11 +484,10 @@ module _ (e : Ext) (o : Options) (values : List ℕ) (h : Solved e o values) (k 
           let f = from_packet (c + 1) j m (not_nop j s) in
           let x = job_from e o values h own_ops j f.0 in
           let p = x.0 in
-          let i = job_instr p j x.2 in
           ⊎_elim (λ (u : (p.op.kind ≡ Enter) × (j.instr.op ≡ EnterOp)). at_enter p j c x.1 x.2 u.0 f.1)
           (λ (u : (p.op.kind ≡ Leave) × (j.instr.op ≡ LeaveOp)). at_leave p j c x.1 x.2 u.0 f.1)
-          (shift_kind e o values h (words e o values h) (placing e o values h) k block r p j.instr.op
-          (in_region (all e o values) k block r p x.1) i s));
+          (shift_job e o values h (words e o values h) (placing e o values h) k block r p j
+          (in_region (all e o values) k block r p x.1) x.2 s));
       kept = λ none.
           let l = done_same is_leave c (λ p m t a n. moves_here p LeaveOp c m (kind_not is_leave p In t refl)
           (kind_not is_leave p Out t refl) a (leave_instr p t a) refl n none) in

@@ -12,7 +12,7 @@ use Rattle.un_isa.specs.declared.op.Op.TheVariants.{Mov, Load, Store, Call, Spil
 use Rattle.un_isa.specs.declared.reg.Reg.{Reg}
 use Rattle.un_isa.specs.declared.instr.Instr.{Instr}
 use Rattle.un_isa.specs.declared.table.Table.{Table}
-use Rattle.un_isa.specs.Does.{is_transfer, is_control, is_copy, writes_memory, moves_stack}
+use Rattle.un_isa.specs.Does.{is_transfer, is_new, is_compare, is_control, is_copy, writes_memory, moves_stack}
 use Rattle.un_ir.specs.declared.function.Kind.{Kind}
 use Rattle.un_ir.specs.declared.function.Kind.TheVariants.{Pred}
 use Rattle.un_isa.specs.declared.reg.TheConstants.{STACK, GENERALS, FIRST_SLOT}
@@ -27,13 +27,14 @@ pub record Job : Type 0 where
   pub gives : Option ℕ
 
 -- for each temporary: whether it is active, its register or slot, the cycle of its definer, the cycle before which it stands
--- there, its definer's latency, and its kind
+-- there, its definer's latency, whether a compare gives it, and its kind
 pub record Temps : Type 0 where
   pub active : ℕ → Bool
   pub place : ℕ → ℕ
   pub from : ℕ → ℕ
   pub until : ℕ → ℕ
   pub lat : ℕ → ℕ
+  pub compared : ℕ → Bool
   pub kind : ℕ → Kind
 
 -- a temporary that occupies its place in cycle c
@@ -67,6 +68,7 @@ pub record Gives (t : Table) (T : Temps) (j : Job) (x : ℕ) : Type 0 where
   pub active : T.active x ≡ true
   pub from : T.from x ≡ j.cycle
   pub lat : T.lat x ≡ latency_of t j.instr.op
+  pub compared : T.compared x ≡ is_compare j.instr.op
 
 -- the result is in the register that the instruction writes
 pub record GivesReg (t : Table) (T : Temps) (j : Job) (x : ℕ) : Type 0 where
@@ -97,6 +99,17 @@ pub record IsInSlot (T : Temps) (slots : ℕ) (j : Job) (x : ℕ) : Type 0 where
 abbrev pub GivesResult : Table → Temps → Job → Type 0
 GivesResult t T j = (j.gives ≡ None) ⊎ ((x : ℕ) × (Gives t T j x) × (T.place x ≡ t.result) × (IsPlain T x))
 
+-- a job tests a predicate that a compare gives in its own cycle: another job of its packet
+pub record TestsNew (T : Temps) (j : Job) (x : ℕ) : Type 0 where
+  pub reads : j.reads ≡ x ∷ []
+  pub active : T.active x ≡ true
+  pub from : T.from x ≡ j.cycle
+  pub srcs : numbers j.instr.srcs ≡ T.place x ∷ []
+  pub reg : T.place x < FIRST_SLOT
+  pub plain : IsPlain T x
+  pub compared : T.compared x ≡ true
+  pub new : is_new j.instr.op ≡ true
+
 -- what the instruction of a job is, with the temporaries that it reads and gives
 pub data Deed (t : Table) (T : Temps) (slots : ℕ) (j : Job) : Type 0 where
   computes : (x : ℕ) → is_alu j.instr.op ≡ true → is_copy j.instr.op ≡ false → ReadsAll T j → GivesReg t T j x → IsPlain T x
@@ -114,7 +127,9 @@ pub data Deed (t : Table) (T : Temps) (slots : ℕ) (j : Job) : Type 0 where
   stores : j.instr.op ≡ Store → ReadsAll T j → j.gives ≡ None → j.instr.dst ≡ None → Deed t T slots j
   calls : j.instr.op ≡ Call → ReadsAll T j → j.instr.dst ≡ None → GivesResult t T j → Deed t T slots j
   shifts : moves_stack j.instr.op ≡ true → j.instr.srcs ≡ [] → j.gives ≡ None → Deed t T slots j
-  leaves : is_transfer j.instr.op ≡ true → ReadsAll T j → j.instr.dst ≡ None → j.gives ≡ None → Deed t T slots j
+  leaves : is_transfer j.instr.op ≡ true → is_new j.instr.op ≡ false → ReadsAll T j → j.instr.dst ≡ None → j.gives ≡ None
+      → Deed t T slots j
+  tests : (x : ℕ) → TestsNew T j x → j.instr.dst ≡ None → j.gives ≡ None → Deed t T slots j
   rests : j.instr.op ≡ Nop → j.instr.srcs ≡ [] → j.instr.dst ≡ None → j.gives ≡ None → Deed t T slots j
 
 -- facts on temporaries alone
@@ -203,7 +218,8 @@ gives_where t T slots j x (stores o r g d) e = absurd (cc (g, e))
 gives_where t T slots j x (calls o r d (inl g)) e = absurd (cc (g, e))
 gives_where t T slots j x (calls o r d (inr g)) e = let h = g.1 in let k : g.0 ≡ x = cc (h.gives, e) in subst (Gives t T j) k g.1
 gives_where t T slots j x (shifts o r g) e = absurd (cc (g, e))
-gives_where t T slots j x (leaves o r d g) e = absurd (cc (g, e))
+gives_where t T slots j x (leaves o old r d g) e = absurd (cc (g, e))
+gives_where t T slots j x (tests y n d g) e = absurd (cc (g, e))
 gives_where t T slots j x (rests o r d g) e = absurd (cc (g, e))
 
 -- what a job gives is active from the job's cycle on

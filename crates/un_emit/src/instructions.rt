@@ -4,7 +4,8 @@ ghost use Rattle.std.specs.Prelude.{◌≡◌, ◌≤◌, IfOk, IfSome, All};
 ghost use Rattle.un_emit.specs.Bounds.{IsPlace, FitFrame};
 ghost use Rattle.un_isa.specs.declared.reg.TheConstants.{FRAME};
 ghost use Rattle.un_model.specs.Emission.{slot_offset, source_instr, label_at, label_of, term_instr, copy_instr, stack_instr};
-ghost use Rattle.un_model.specs.Emission.{instr_by, instr_if};
+ghost use Rattle.un_model.specs.Emission.{instr_by, instr_if, new_op, is_beside, emitted_by};
+ghost use Rattle.un_model.specs.Schedules.{schedule_of};
 
 use crate::registers::{operand_registers, result_register};
 use std::alloc::Global;
@@ -18,6 +19,8 @@ use un_isa::op::Op;
 use un_isa::reg::{FIRST_SLOT, Reg};
 use un_lists::few::Few;
 use un_model::model::{Model, OpVars};
+use un_model::placement::{choice, optional_value};
+use un_model::schedule::LiveRange;
 
 /// The byte of the frame at which a slot begins.
 fn slot_offset(slot: Option<Reg>) -> i32
@@ -148,24 +151,63 @@ fn instr(
     }
 }
 
+/// Whether what an operation reads first is defined in its own cycle, where the temporaries have these live ranges.
+fn is_beside(ranges: &[LiveRange], values: &[u32], op: &ExtOp, vars: &OpVars) -> bool
+    ensures { result ≡ is_beside ranges.now values.now op.now vars.now }
+{
+    let Some(operand) = op.operands.as_slice().first() else {
+        return false;
+    };
+    let x = choice(values, vars, 0, operand);
+    match ranges.get(x.0 as usize) {
+        None => false,
+        Some(range) => range.from == optional_value(values, vars.cycle),
+    }
+}
+
+/// The jump that tests what its own packet writes, for one that tests a predicate of an earlier packet.
+fn new_op(op: Op) -> Op
+    ensures { result ≡ new_op op }
+{
+    match op {
+        Op::JumpIf => Op::JumpIfNew,
+        Op::JumpIfNot => Op::JumpIfNotNew,
+        _ => op,
+    }
+}
+
+/// The operation as which one is emitted that stands in the cycle of what it reads first, or not: a terminator tests that there.
+fn emitted_op(is_beside: bool, kind: &ExtKind, op: Op) -> Op
+    ensures { result ≡ emitted_by is_beside kind.now op }
+{
+    match kind {
+        ExtKind::End(_) if is_beside => new_op(op),
+        _ => op,
+    }
+}
+
 /// The instruction of an operation that issues `issued`, none where that is none, and none of a block's start and of its end.
 pub(crate) fn emitted(
     alloc: Global,
     m: &Model,
     values: &[u32],
+    ranges: &[LiveRange],
     frame: u32,
     issued: Option<Op>,
     op: &ExtOp,
     vars: &OpVars,
 ) -> Result<Option<Instr>, NoMemory>
-    requires { FitFrame m.now values.now frame }
+    requires frame { FitFrame m.now values.now frame }
+    requires ranges { ranges.now ≡ (schedule_of m.now values.now).ranges }
     ensures { IfOk result (λ i. i ≡ instr_if m.now values.now op.now vars.now issued) }
 {
     let Some(instruction) = issued else {
         return Ok(None);
     };
+    let beside = is_beside(ranges, values, op, vars);
+    let emitted = emitted_op(beside, &op.kind, instruction);
     let srcs = operand_registers(alloc, m, values, op, vars)?;
     let dst = result_register(m, values, op);
     let blocks = m.ext.blocks.as_slice();
-    Ok(instr(alloc, blocks, frame, &op.kind, instruction, srcs, dst))
+    Ok(instr(alloc, blocks, frame, &op.kind, emitted, srcs, dst))
 }

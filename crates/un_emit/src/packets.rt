@@ -8,7 +8,7 @@ ghost use Rattle.un_emit.specs.Emitted.{packet_with, code_block, code_blocks};
 ghost use Rattle.un_isa.specs.declared.instr.Instr.{Instr};
 ghost use Rattle.un_model.specs.Cost.{value_of};
 ghost use Rattle.un_model.specs.Emission.{nop, or_nop, instrs_in};
-ghost use Rattle.un_model.specs.Schedules.{block_issues, issues_of};
+ghost use Rattle.un_model.specs.Schedules.{block_issues, schedule_of};
 
 use crate::instructions::emitted;
 use std::alloc::{AllocError, Global};
@@ -20,7 +20,7 @@ use un_lists::few::Few;
 use un_lists::items::Items;
 use un_model::cost::value;
 use un_model::model::{BlockVars, Model};
-use un_model::schedule::Issue;
+use un_model::schedule::{Issue, LiveRange, Schedule};
 use un_packet::code::{CodeBlock, Packet};
 
 /// The instruction that does nothing.
@@ -77,11 +77,13 @@ fn cycles(
     values: &[u32],
     frame: u32,
     issues: &[Issue],
+    ranges: &[LiveRange],
     block: &ExtBlock,
     vars: &BlockVars,
 ) -> Result<Vec<Items<Instr>>, NoMemory>
     requires frame { FitFrame m.now values.now frame }
     requires issues { (b : ℕ) × (n : ℕ) × (issues.now ≡ block_issues values.now b n block.now vars.now) }
+    requires ranges { ranges.now ≡ (schedule_of m.now values.now).ranges }
     ensures { IfOk result (λ cycles. cycles.items
         ≡ map (instrs_in m.now values.now block.now vars.now) (range_with_len 1 (value_of values.now vars.now.end - 1))) }
 {
@@ -89,7 +91,16 @@ fn cycles(
     for k in 0..issues.len() {
         let issue = &issues[k];
         let op = block.ops.get(k);
-        let i = emitted(alloc, m, values, frame, issue.instr, op, vars.ops.get(k))?;
+        let i = emitted(
+            alloc,
+            m,
+            values,
+            ranges,
+            frame,
+            issue.instr,
+            op,
+            vars.ops.get(k),
+        )?;
         push_issued(&mut cycles, issue.cycle, i)?;
     }
     Ok(cycles)
@@ -117,21 +128,23 @@ fn packets(alloc: Global, cycles: Vec<Items<Instr>>) -> Result<Items<Packet>, No
     Ok(packets)
 }
 
-/// The packets of a block under its label, of which the issues are these.
+/// The packets of a block under its label, of which the issues are these, where the temporaries have these live ranges.
 fn code_block(
     alloc: Global,
     m: &Model,
     values: &[u32],
     frame: u32,
     issues: &[Issue],
+    ranges: &[LiveRange],
     block: &ExtBlock,
     vars: &BlockVars,
 ) -> Result<CodeBlock, NoMemory>
     requires frame { FitFrame m.now values.now frame }
     requires issues { (b : ℕ) × (n : ℕ) × (issues.now ≡ block_issues values.now b n block.now vars.now) }
+    requires ranges { ranges.now ≡ (schedule_of m.now values.now).ranges }
     ensures { IfOk result (λ code. code ≡ code_block m.now values.now block.now vars.now) }
 {
-    let cycles = cycles(alloc, m, values, frame, issues, block, vars)?;
+    let cycles = cycles(alloc, m, values, frame, issues, ranges, block, vars)?;
     let packets = packets(alloc, cycles)?;
     Ok(CodeBlock {
         label: block.label,
@@ -145,19 +158,20 @@ pub(crate) fn code_blocks(
     m: &Model,
     values: &[u32],
     frame: u32,
-    issues: &[Issue],
+    t: &Schedule,
 ) -> Result<Items<CodeBlock>, NoMemory>
     requires frame { FitFrame m.now values.now frame }
-    requires issues { issues.now ≡ issues_of m.now values.now }
+    requires schedule { t.now ≡ schedule_of m.now values.now }
     ensures { IfOk result (λ blocks. blocks ≡ code_blocks m.now values.now) }
 {
     let mut code = Items::new(alloc);
-    let mut rest = issues;
+    let mut rest = t.issues.as_slice();
+    let ranges = t.ranges.as_slice();
     for k in 0..m.ext.blocks.len().min(m.blocks.len()) {
         let block = m.ext.blocks.get(k);
         let vars = m.blocks.get(k);
         let (own, later) = rest.split_at(block.ops.len().min(vars.ops.len()));
-        code.push(code_block(alloc, m, values, frame, own, block, vars)?)?;
+        code.push(code_block(alloc, m, values, frame, own, ranges, block, vars)?)?;
         rest = later;
     }
     Ok(code)

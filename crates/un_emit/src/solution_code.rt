@@ -34,7 +34,7 @@ pub(crate) fn solution_code(alloc: Global, m: &Model, s: &Solution) -> Result<Co
     let t = schedule(alloc, m, s)?;
     let values = s.values.as_slice();
     let frame = frame(m, values, &t);
-    let code = code_blocks(alloc, m, values, frame, t.issues.as_slice())?;
+    let code = code_blocks(alloc, m, values, frame, &t)?;
     Ok(Code {
         frame,
         blocks: code,

@@ -1,4 +1,5 @@
-//! A listing in the spelling that `alloc` prints, which `run` takes where all of its instructions are of the subset.
+//! A listing in the spelling that `alloc` prints, which `run` takes where all of its instructions are of the subset; and at which line
+//! each packet of that stands in the listing itself.
 
 use crate::listing::Listing;
 use crate::spelling::put_plain;
@@ -72,6 +73,28 @@ pub fn put_listing(out: &mut Vec<u8>, listing: &Listing<'_>, f: &Function) -> Re
     put_text(out, b"\n")?;
     for block in 0..listing.blocks {
         put_block(out, listing, f, block)?;
+    }
+    Ok(())
+}
+
+/// Appends a line for the label of a block, and for each of its packets the packet's line.
+fn put_block_lines(out: &mut Vec<u8>, listing: &Listing<'_>, block: u32) -> Result<(), NoMemory> {
+    put_text(out, b"0\n")?;
+    for listed in listing.packets.as_slice() {
+        if listed.block == block {
+            put_number(out, u64::from(listed.line))?;
+            put_text(out, b"\n")?;
+        }
+    }
+    Ok(())
+}
+
+/// Appends for each line that `put_listing` appends the line at which its packet begins in the listing, from 1, and 0 where it is no
+/// packet's.
+pub fn put_lines(out: &mut Vec<u8>, listing: &Listing<'_>) -> Result<(), NoMemory> {
+    put_text(out, b"0\n")?;
+    for block in 0..listing.blocks {
+        put_block_lines(out, listing, block)?;
     }
     Ok(())
 }

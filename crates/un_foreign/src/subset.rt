@@ -10,7 +10,7 @@ use un_lists::items::Items;
 
 /// The forms of the subset's instructions: R stands for a general register, P for a predicate, N for a number, L for a name, and A for what
 /// stands in parentheses at the end.
-static FORMS: [&[u8]; 30] = [
+static FORMS: [&[u8]; 32] = [
     b"R = #N",
     b"R = R",
     b"R = P",
@@ -38,6 +38,8 @@ static FORMS: [&[u8]; 30] = [
     b"jump L",
     b"if (P) jump L",
     b"if (!P) jump L",
+    b"if (P.new) jump L",
+    b"if (!P.new) jump L",
     b"call LA",
     b"jumpr R",
     b"nop",

@@ -4,19 +4,20 @@ use Rattle.std.specs.List.{range_with_len}
 use Rattle.std.proofs.Common.{refl}
 use Rattle.un_isa.specs.declared.op.Op.{Op}
 use Rattle.un_isa.specs.declared.op.TheConstants.{OPERATIONS}
-use Rattle.un_isa.specs.declared.op.Op.TheVariants.{Mov, Load, Store, Call, Jump, JumpIf, JumpIfNot, Jumpr}
-use Rattle.un_isa.specs.declared.op.Op.TheVariants.{Spill, Reload, P2R, R2P, Enter, Leave, Nop}
+use Rattle.un_isa.specs.declared.op.Op.TheVariants.{Mov, Mux, CmpEq, CmpGt, CmpGtu, CmpEqi, CmpGti, Load, Store, Call, Jump, JumpIf, JumpIfNot, Jumpr}
+use Rattle.un_isa.specs.declared.op.Op.TheVariants.{Spill, Reload, P2R, R2P, Enter, Leave, Nop, JumpIfNew, JumpIfNotNew}
 use Rattle.un_isa.specs.declared.packet_counts.TheConstants.{PACKET, MEM_PLACES, STORE_PLACES, XC_PLACES, CONTROL_PLACES}
 use Rattle.un_isa.specs.declared.reg.Space.TheVariants.{R, P, M}
 use Rattle.un_isa.specs.declared.table.Needs.{Needs}
 use Rattle.un_isa.specs.Does.{is_call, is_return, is_jump, is_transfer, is_leaving, is_control, is_copy, writes_memory, is_word_access}
-use Rattle.un_isa.specs.Does.{moves_stack, is_nop}
+use Rattle.un_isa.specs.Does.{moves_stack, is_nop, is_branch, is_new, is_compare}
 use Rattle.un_isa.specs.Facts.{all_ops, source_name, printed_name}
 use Rattle.un_isa.specs.Hexagon.{HEXAGON}
 use Rattle.un_isa.specs.Registers.{space_of, callee_saved, saved_registers}
 use Rattle.un_isa.specs.RegSets.{members}
 use Rattle.un_isa.specs.Starts.{is_junk_from, are_predicates}
-use Rattle.un_isa.specs.Tables.{number_of, latency_of}
+use Rattle.un_isa.specs.declared.table.Table.{Table}
+use Rattle.un_isa.specs.Tables.{number_of, latency_of, gap_by}
 
 -- by the number of the operation
 numbers : map number_of all_ops ≡ range_with_len 0 OPERATIONS
@@ -24,7 +25,7 @@ numbers = refl
 
 latencies : map (latency_of HEXAGON) all_ops ≡
     1 ∷ 1 ∷ 1 ∷ 1 ∷ 1 ∷ 1 ∷ 1 ∷ 1 ∷ 1 ∷ 1 ∷ 1 ∷ 1 ∷ 1 ∷ 1 ∷ 1 ∷ 1 ∷ 2 ∷
-    1 ∷ 1 ∷ 1 ∷ 2 ∷ 1 ∷ 1 ∷ 1 ∷ 1 ∷ 1 ∷ 1 ∷ 1 ∷ 2 ∷ 1 ∷ 1 ∷ 1 ∷ 1 ∷ 1 ∷ []
+    1 ∷ 1 ∷ 1 ∷ 2 ∷ 1 ∷ 1 ∷ 1 ∷ 1 ∷ 1 ∷ 1 ∷ 1 ∷ 2 ∷ 1 ∷ 1 ∷ 1 ∷ 1 ∷ 1 ∷ 1 ∷ 1 ∷ []
 latencies = refl
 
 -- accesses to memory, stores, products and transfers together, transfers
@@ -50,7 +51,7 @@ control = 0 ∷ 0 ∷ 1 ∷ 1 ∷ []
 needs : map (λ (op : Op). counts_of (slice_get HEXAGON.uses (number_of op))) all_ops ≡
     alu ∷ alu ∷ alu ∷ alu ∷ alu ∷ alu ∷ alu ∷ alu ∷ alu ∷ alu ∷ alu ∷ alu ∷
     alu ∷ alu ∷ alu ∷ alu ∷ xtype ∷ xtype ∷ xtype ∷ xtype ∷ load ∷ store ∷ control ∷ control ∷
-    control ∷ control ∷ control ∷ store ∷ load ∷ xtype ∷ xtype ∷ alu ∷ alu ∷ alu ∷ []
+    control ∷ control ∷ control ∷ store ∷ load ∷ xtype ∷ xtype ∷ alu ∷ alu ∷ alu ∷ control ∷ control ∷ []
 needs = refl
 
 counts : PACKET ∷ MEM_PLACES ∷ STORE_PLACES ∷ XC_PLACES ∷ CONTROL_PLACES ∷ [] ≡ 4 ∷ 2 ∷ 1 ∷ 2 ∷ 1 ∷ []
@@ -93,7 +94,7 @@ source_names : map source_name all_ops ≡
     codes "addi" ∷ codes "andi" ∷ codes "ori" ∷ codes "mux" ∷ codes "cmpeq" ∷ codes "cmpgt" ∷ codes "cmpgtu" ∷
     codes "cmpeqi" ∷ codes "cmpgti" ∷ codes "mpyi" ∷ codes "asl" ∷ codes "asr" ∷ codes "lsr" ∷ codes "load" ∷
     codes "store" ∷ codes "call" ∷ [] ∷ [] ∷ [] ∷ [] ∷ [] ∷
-    [] ∷ [] ∷ [] ∷ [] ∷ [] ∷ [] ∷ []
+    [] ∷ [] ∷ [] ∷ [] ∷ [] ∷ [] ∷ [] ∷ [] ∷ []
 source_names = refl
 
 printed_names : map printed_name all_ops ≡
@@ -101,16 +102,26 @@ printed_names : map printed_name all_ops ≡
     codes "add" ∷ codes "and" ∷ codes "or" ∷ codes "mux" ∷ codes "cmp.eq" ∷ codes "cmp.gt" ∷ codes "cmp.gtu" ∷
     codes "cmp.eq" ∷ codes "cmp.gt" ∷ codes "mpyi" ∷ codes "asl" ∷ codes "asr" ∷ codes "lsr" ∷ codes "memw" ∷
     codes "memw" ∷ codes "call" ∷ codes "jump" ∷ codes "jump" ∷ codes "jump" ∷ codes "jumpr" ∷ codes "memw" ∷
-    codes "memw" ∷ [] ∷ [] ∷ codes "add" ∷ codes "add" ∷ codes "nop" ∷ []
+    codes "memw" ∷ [] ∷ [] ∷ codes "add" ∷ codes "add" ∷ codes "nop" ∷
+    codes "jump" ∷ codes "jump" ∷ []
 printed_names = refl
 
 -- ---- what operations do
 
-transfers : filter is_transfer all_ops ≡ Jump ∷ JumpIf ∷ JumpIfNot ∷ Jumpr ∷ []
+transfers : filter is_transfer all_ops ≡ Jump ∷ JumpIf ∷ JumpIfNot ∷ Jumpr ∷ JumpIfNew ∷ JumpIfNotNew ∷ []
 transfers = refl
 
-jumps : filter is_jump all_ops ++ filter is_return all_ops ≡ filter is_transfer all_ops
+jumps : filter is_jump all_ops ≡ Jump ∷ JumpIf ∷ JumpIfNot ∷ JumpIfNew ∷ JumpIfNotNew ∷ []
 jumps = refl
+
+branches : filter is_branch all_ops ≡ JumpIf ∷ JumpIfNot ∷ []
+branches = refl
+
+new_branches : filter is_new all_ops ≡ JumpIfNew ∷ JumpIfNotNew ∷ []
+new_branches = refl
+
+compares : filter is_compare all_ops ≡ CmpEq ∷ CmpGt ∷ CmpGtu ∷ CmpEqi ∷ CmpGti ∷ []
+compares = refl
 
 returns : filter is_return all_ops ≡ Jumpr ∷ []
 returns = refl
@@ -135,3 +146,20 @@ accesses = refl
 
 frames : filter moves_stack all_ops ++ filter is_nop all_ops ≡ Enter ∷ Leave ∷ Nop ∷ []
 frames = refl
+
+-- ---- gaps
+
+-- a table where jumps may test what compares of their packets write
+abbrev fresh_table : Table
+fresh_table = record HEXAGON { fresh = true }
+
+abbrev gaps_of : Table → Op → List ℕ
+gaps_of t user = map (λ (op : Op). gap_by t op user) (CmpEq ∷ CmpGt ∷ CmpGtu ∷ CmpEqi ∷ CmpGti ∷ R2P ∷ Load ∷ [])
+
+fresh_gaps : map (gaps_of fresh_table) (JumpIf ∷ JumpIfNot ∷ JumpIfNew ∷ JumpIfNotNew ∷ Jumpr ∷ Mux ∷ P2R ∷ []) ≡
+    (0 ∷ 0 ∷ 0 ∷ 0 ∷ 0 ∷ 1 ∷ 2 ∷ []) ∷ (0 ∷ 0 ∷ 0 ∷ 0 ∷ 0 ∷ 1 ∷ 2 ∷ []) ∷ replicate 5 (1 ∷ 1 ∷ 1 ∷ 1 ∷ 1 ∷ 1 ∷ 2 ∷ [])
+fresh_gaps = refl
+
+gaps : map (gaps_of HEXAGON) (JumpIf ∷ JumpIfNot ∷ JumpIfNew ∷ JumpIfNotNew ∷ Jumpr ∷ Mux ∷ P2R ∷ []) ≡
+    replicate 7 (1 ∷ 1 ∷ 1 ∷ 1 ∷ 1 ∷ 1 ∷ 2 ∷ [])
+gaps = refl

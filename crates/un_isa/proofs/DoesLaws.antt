@@ -4,7 +4,7 @@ use Rattle.std.specs.Prelude.{nat_eq, is_none}
 use Rattle.un_isa.specs.declared.op.Op.{Op}
 use Rattle.un_isa.specs.declared.op.Op.TheVariants.{Imm, Call}
 use Rattle.un_isa.specs.Does.{is_call, is_return, is_jump, is_transfer, is_leaving, is_control, is_copy, writes_memory, is_word_access}
-use Rattle.un_isa.specs.Does.{moves_stack, is_nop}
+use Rattle.un_isa.specs.Does.{moves_stack, is_nop, is_branch, is_new, is_compare}
 use Rattle.un_isa.specs.Facts.{class_of, is_source, result_space}
 use Rattle.un_isa.specs.Hexagon.{needs_by}
 use Rattle.un_isa.specs.Operands.{is_alu}
@@ -79,6 +79,14 @@ pub transfer_quick : (op : Op) → is_transfer op ≡ true → is_none (result_s
 transfer_quick Imm h = absurd (cc h)
 transfer_quick op h = so_holds (is_transfer op) (is_none (result_space op)) refl h
 
+pub branch_transfer : (op : Op) → is_branch op ≡ true → is_transfer op ≡ true
+branch_transfer Imm h = absurd (cc h)
+branch_transfer op h = so_holds (is_branch op) (is_transfer op) refl h
+
+pub new_transfer : (op : Op) → is_new op ≡ true → is_transfer op ≡ true
+new_transfer Imm h = absurd (cc h)
+new_transfer op h = so_holds (is_new op) (is_transfer op) refl h
+
 -- ---- operations of the source
 
 pub source_stays : (op : Op) → is_source op ≡ true → is_transfer op ≡ false
@@ -92,6 +100,10 @@ source_stack op h = so_fails (is_source op) (moves_stack op) refl h
 pub source_nop : (op : Op) → is_source op ≡ true → is_nop op ≡ false
 source_nop Imm h = refl
 source_nop op h = so_fails (is_source op) (is_nop op) refl h
+
+pub source_branch : (op : Op) → is_source op ≡ true → is_branch op ≡ false
+source_branch Imm h = refl
+source_branch op h = so_fails (is_source op) (is_branch op) refl h
 
 -- ---- places in a packet
 
@@ -109,6 +121,10 @@ pub copy_stays : (op : Op) → is_copy op ≡ true → is_transfer op ≡ false
 copy_stays Imm h = absurd (cc h)
 copy_stays op h = so_fails (is_copy op) (is_transfer op) refl h
 
+pub copy_branch : (op : Op) → is_copy op ≡ true → is_branch op ≡ false
+copy_branch Imm h = absurd (cc h)
+copy_branch op h = so_fails (is_copy op) (is_branch op) refl h
+
 pub copy_stack : (op : Op) → is_copy op ≡ true → moves_stack op ≡ false
 copy_stack Imm h = absurd (cc h)
 copy_stack op h = so_fails (is_copy op) (moves_stack op) refl h
@@ -121,6 +137,18 @@ pub call_is : (op : Op) → is_call op ≡ true → op ≡ Call
 call_is Call h = refl
 call_is op h = absurd (cc h)
 
+pub stack_new : (op : Op) → moves_stack op ≡ true → is_new op ≡ false
+stack_new Imm h = absurd (cc h)
+stack_new op h = so_fails (moves_stack op) (is_new op) refl h
+
+pub compare_stack : (op : Op) → is_compare op ≡ true → moves_stack op ≡ false
+compare_stack Imm h = absurd (cc h)
+compare_stack op h = so_fails (is_compare op) (moves_stack op) refl h
+
+pub compare_call : (op : Op) → is_compare op ≡ true → is_call op ≡ false
+compare_call Imm h = absurd (cc h)
+compare_call op h = so_fails (is_compare op) (is_call op) refl h
+
 pub stack_stays : (op : Op) → moves_stack op ≡ true → is_transfer op ≡ false
 stack_stays Imm h = absurd (cc h)
 stack_stays op h = so_fails (moves_stack op) (is_transfer op) refl h
@@ -130,6 +158,10 @@ stack_stays op h = so_fails (moves_stack op) (is_transfer op) refl h
 pub alu_stays : (op : Op) → is_alu op ≡ true → is_control op ≡ false
 alu_stays Imm h = refl
 alu_stays op h = so_fails (is_alu op) (is_control op) refl h
+
+pub alu_new : (op : Op) → is_alu op ≡ true → is_new op ≡ false
+alu_new Imm h = refl
+alu_new op h = so_fails (is_alu op) (is_new op) refl h
 
 pub alu_stack : (op : Op) → is_alu op ≡ true → moves_stack op ≡ false
 alu_stack Imm h = refl

@@ -1,18 +1,20 @@
 -- HEXAGON, entry by entry.
 use Rattle.std.proofs.Common.{ℕ, zero, suc, ◌≡◌, ◌<◌, Bool, true, false, ◌&&◌, not, slice_get, Some, IsSomeAnd, refl, arith, lit<, lit≤}
 use Rattle.std.proofs.Common.{◌⊎◌, inl, inr}
-use Rattle.std.specs.Prelude.{nat_eq}
+use Rattle.std.specs.Prelude.{nat_eq, ◌==◌, if◌then◌else◌}
 use Rattle.std.specs.Bool.{OnTrue}
 use Rattle.std.proofs.lemmas.Bool.{cases_lt}
 use Rattle.std.proofs.lemmas.Bool.Decides.{nat_tests}
 use Rattle.un_isa.specs.declared.op.Op.{Op}
-use Rattle.un_isa.specs.declared.op.Op.TheVariants.{Imm}
+use Rattle.un_isa.specs.declared.op.Op.TheVariants.{Imm, CmpEq, CmpGt, CmpGtu, CmpEqi, CmpGti}
 use Rattle.un_isa.specs.declared.reg.TheConstants.{REGISTERS}
+use Rattle.un_isa.specs.Does.{is_compare}
 use Rattle.un_isa.specs.Starts.{is_clobbered}
 use Rattle.un_isa.specs.Tables.{number_of, latency_of, in_mask}
 use Rattle.un_isa.specs.Facts.{class_of, latency_by}
 use Rattle.un_isa.specs.Hexagon.{HEXAGON, IsHexagon, needs_by, is_saved}
 use Rattle.un_isa.specs.Fit.{IsFit, IsFitLatency, AreFitNeeds, is_quick, may_be_saved}
+use Rattle.un_isa.specs.Versions.{FRESH, table_of}
 use Rattle.un_isa.proofs.DoesLaws.{so, so_holds}
 
 -- a test that holds at each number below n
@@ -63,6 +65,7 @@ hexagon_entries = record {
   no_others = (lit< tt, lit< tt);
   args = refl;
   result = refl;
+  fresh = refl;
 }
 
 quick_by : (b : Bool) (n : ℕ) → so b (nat_eq n 1) ≡ true → OnTrue b (n ≡ 1)
@@ -77,6 +80,14 @@ fit_needs : (op : Op) → IsSomeAnd (slice_get HEXAGON.uses (number_of op)) (Are
 fit_needs Imm = record { mem = (lit≤ tt, lit≤ tt); store = (lit≤ tt, lit≤ tt); xc = (lit≤ tt, lit≤ tt); control = (lit≤ tt, lit≤ tt) }
 fit_needs _ = record { mem = (lit≤ tt, lit≤ tt); store = (lit≤ tt, lit≤ tt); xc = (lit≤ tt, lit≤ tt); control = (lit≤ tt, lit≤ tt) }
 
+quick_compare : (op : Op) → is_compare op ≡ true → latency_of HEXAGON op ≡ 1
+quick_compare CmpEq h = refl
+quick_compare CmpGt h = refl
+quick_compare CmpGtu h = refl
+quick_compare CmpEqi h = refl
+quick_compare CmpGti h = refl
+quick_compare _ h = absurd (cc h)
+
 pub hexagon_fit : IsFit HEXAGON
 hexagon_fit = record {
   latencies = fit_latencies;
@@ -90,4 +101,26 @@ hexagon_fit = record {
   clobbered = λ r h. agree_same (in_mask HEXAGON.clobbered r) (is_clobbered r && not (in_mask HEXAGON.saved r))
       (below_holds (λ r. agree (in_mask HEXAGON.clobbered r) (is_clobbered r && not (in_mask HEXAGON.saved r))) REGISTERS refl r h);
   no_others = (lit< tt, lit< tt);
+  quick_compares = λ f op h. quick_compare op h;
 }
+
+pub fresh_fit : IsFit FRESH
+fresh_fit = record {
+  latencies = hexagon_fit.latencies;
+  needs = hexagon_fit.needs;
+  args = refl;
+  result = refl;
+  kept = hexagon_fit.kept;
+  saved = hexagon_fit.saved;
+  clobbered = hexagon_fit.clobbered;
+  no_others = hexagon_fit.no_others;
+  quick_compares = λ f op h. quick_compare op h;
+}
+
+-- the table of each version
+pub version_fit : (v : ℕ) → IsFit (table_of v)
+version_fit v = by (v == 3)
+  where
+    by : (b : Bool) → IsFit (if b then FRESH else HEXAGON)
+    by true = fresh_fit
+    by false = hexagon_fit

@@ -1,5 +1,6 @@
 pub mod Described
 pub mod DoesLaws
+pub mod GapRows
 pub mod HexagonTable
 pub mod MemoryWords
 pub mod RangeTests

@@ -2,9 +2,10 @@
 use Rattle.std.specs.Prelude.{Bool, true, false, ◌||◌}
 use Rattle.un_isa.specs.declared.op.Op.{Op}
 use Rattle.un_isa.specs.declared.does.Does.{Does}
-use Rattle.un_isa.specs.declared.does.Does.TheVariants.{Moves, Loads, Stores, Spills, Reloads, Calls, Jumps, Returns}
+use Rattle.un_isa.specs.declared.does.Does.TheVariants.{Compares, Moves, Loads, Stores, Spills, Reloads, Calls, Jumps, Returns}
 use Rattle.un_isa.specs.declared.does.Does.TheVariants.{OpensFrame, ClosesFrame, Rests}
-use Rattle.un_isa.specs.declared.does.When.TheVariants.{Always}
+use Rattle.un_isa.specs.declared.does.When.{When}
+use Rattle.un_isa.specs.declared.does.When.TheVariants.{Always, IfTrue, IfFalse, IfNewTrue, IfNewFalse}
 use Rattle.un_isa.specs.Facts.{does_of}
 
 abbrev pub calls : Does → Bool
@@ -14,6 +15,30 @@ calls _ = false
 abbrev pub jumps : Does → Bool
 jumps (Jumps when) = true
 jumps _ = false
+
+-- by a predicate as it was before the packet
+abbrev pub tests_old : When → Bool
+tests_old IfTrue = true
+tests_old IfFalse = true
+tests_old _ = false
+
+-- by a predicate as a compare of the packet writes it
+abbrev pub tests_new : When → Bool
+tests_new IfNewTrue = true
+tests_new IfNewFalse = true
+tests_new _ = false
+
+abbrev pub branches : Does → Bool
+branches (Jumps when) = tests_old when
+branches _ = false
+
+abbrev pub branches_new : Does → Bool
+branches_new (Jumps when) = tests_new when
+branches_new _ = false
+
+abbrev pub compares : Does → Bool
+compares Compares = true
+compares _ = false
 
 abbrev pub returns : Does → Bool
 returns Returns = true
@@ -60,6 +85,18 @@ is_return op = returns (does_of op)
 -- a jump to a label
 abbrev pub is_jump : Op → Bool
 is_jump op = jumps (does_of op)
+
+-- a jump that tests a predicate of an earlier packet
+abbrev pub is_branch : Op → Bool
+is_branch op = branches (does_of op)
+
+-- a jump that tests the predicate that a compare of its own packet writes
+abbrev pub is_new : Op → Bool
+is_new op = branches_new (does_of op)
+
+-- an operation that compares, and gives a predicate
+abbrev pub is_compare : Op → Bool
+is_compare op = compares (does_of op)
 
 -- an instruction that leaves its block
 abbrev pub is_transfer : Op → Bool

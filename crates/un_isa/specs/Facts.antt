@@ -3,7 +3,7 @@ use Rattle.std.specs.Prelude.{ℕ, Bool, is_some, List, [], ◌∷◌, Option, S
 use Rattle.un_isa.specs.declared.op.Op.{Op}
 use Rattle.un_isa.specs.declared.op.Op.TheVariants.{Imm, Mov, Add, Sub, And, Or, Xor, Addi, Andi, Ori, Mux, CmpEq, CmpGt, CmpGtu, CmpEqi}
 use Rattle.un_isa.specs.declared.op.Op.TheVariants.{CmpGti, Mpyi, Asl, Asr, Lsr, Load, Store, Call, Jump, JumpIf, JumpIfNot, Jumpr, Spill}
-use Rattle.un_isa.specs.declared.op.Op.TheVariants.{Reload, P2R, R2P, Enter, Leave, Nop}
+use Rattle.un_isa.specs.declared.op.Op.TheVariants.{Reload, P2R, R2P, Enter, Leave, Nop, JumpIfNew, JumpIfNotNew}
 use Rattle.un_isa.specs.declared.reg.Space.{Space}
 use Rattle.un_isa.specs.declared.reg.Space.TheVariants.{R, P}
 use Rattle.un_isa.specs.declared.facts.Class.{Class}
@@ -13,7 +13,7 @@ use Rattle.un_isa.specs.declared.facts.Range.TheVariants.{Signed16, Signed10, Un
 use Rattle.un_isa.specs.declared.does.Does.{Does}
 use Rattle.un_isa.specs.declared.does.Does.TheVariants.{Computes, Compares, Moves, Loads, Stores, Spills, Reloads, Calls, Jumps, Returns}
 use Rattle.un_isa.specs.declared.does.Does.TheVariants.{OpensFrame, ClosesFrame, Rests}
-use Rattle.un_isa.specs.declared.does.When.TheVariants.{Always, IfTrue, IfFalse}
+use Rattle.un_isa.specs.declared.does.When.TheVariants.{Always, IfTrue, IfFalse, IfNewTrue, IfNewFalse}
 
 -- the operands of an operation: a fixed number of them, each in its space, or any number of general registers
 pub data Operands : Type 0 where
@@ -112,11 +112,14 @@ facts_of R2P = in_code Moves Xtype 1 (one R) (Some P) None none
 facts_of Enter = in_code OpensFrame Alu32 1 none None None (codes "add")
 facts_of Leave = in_code ClosesFrame Alu32 1 none None None (codes "add")
 facts_of Nop = in_code Rests Nothing 1 none None None (codes "nop")
+facts_of JumpIfNew = in_code (Jumps IfNewTrue) Control 1 (one P) None None (codes "jump")
+facts_of JumpIfNotNew = in_code (Jumps IfNewFalse) Control 1 (one P) None None (codes "jump")
 
 -- all operations, by their numbers
 abbrev pub all_ops : List Op
 all_ops = Imm ∷ Mov ∷ Add ∷ Sub ∷ And ∷ Or ∷ Xor ∷ Addi ∷ Andi ∷ Ori ∷ Mux ∷ CmpEq ∷ CmpGt ∷ CmpGtu ∷ CmpEqi ∷ CmpGti ∷ Mpyi ∷ Asl ∷ Asr ∷
-    Lsr ∷ Load ∷ Store ∷ Call ∷ Jump ∷ JumpIf ∷ JumpIfNot ∷ Jumpr ∷ Spill ∷ Reload ∷ P2R ∷ R2P ∷ Enter ∷ Leave ∷ Nop ∷ []
+    Lsr ∷ Load ∷ Store ∷ Call ∷ Jump ∷ JumpIf ∷ JumpIfNot ∷ Jumpr ∷ Spill ∷ Reload ∷ P2R ∷ R2P ∷ Enter ∷ Leave ∷ Nop ∷
+    JumpIfNew ∷ JumpIfNotNew ∷ []
 
 abbrev pub does_of : Op → Does
 does_of op = (facts_of op).does

@@ -1,11 +1,12 @@
 -- Which tables the compiler works for: HEXAGON, and those that differ from it in these ways alone.
-use Rattle.std.specs.Prelude.{ℕ, ◌≡◌, ◌<◌, ◌≤◌, ◌^◌, Bool, true, ◌&&◌, not, is_none, nat_le, nat_lt, slice_get, IsSomeAnd}
+use Rattle.std.specs.Prelude.{ℕ, ◌≡◌, ◌<◌, ◌≤◌, ◌^◌, Bool, true, false, ◌&&◌, not, is_none, nat_le, nat_lt, slice_get, IsSomeAnd}
 use Rattle.std.specs.Bool.{OnTrue}
 use Rattle.un_isa.specs.declared.op.Op.{Op}
 use Rattle.un_isa.specs.declared.reg.TheConstants.{STACK, REGISTERS}
 use Rattle.un_isa.specs.declared.table.Needs.{Needs}
 use Rattle.un_isa.specs.declared.table.Table.{Table}
 use Rattle.un_isa.specs.Tables.{number_of, latency_of, in_mask}
+use Rattle.un_isa.specs.Does.{is_compare}
 use Rattle.un_isa.specs.Starts.{is_clobbered}
 use Rattle.un_isa.specs.Facts.{class_of, result_space}
 use Rattle.un_isa.specs.Hexagon.{HEXAGON, needs_by, is_saved}
@@ -44,3 +45,5 @@ pub record IsFit (t : Table) : Type 0 where
   pub saved : (r : ℕ) → r < REGISTERS → in_mask t.saved r ≡ true → may_be_saved r ≡ true
   pub clobbered : (r : ℕ) → r < REGISTERS → in_mask t.clobbered r ≡ (is_clobbered r && not (in_mask t.saved r))
   pub no_others : (t.clobbered < 2 ^ REGISTERS) × (t.saved < 2 ^ REGISTERS)
+  -- where a jump may test what a compare of its own packet writes, it may do so in the next packet
+  pub quick_compares : t.fresh ≡ true → (op : Op) → is_compare op ≡ true → latency_of t op ≡ 1

@@ -1,5 +1,5 @@
 -- The table of this project's profile of Hexagon V4.
-use Rattle.std.specs.Prelude.{ℕ, ◌≡◌, ◌<◌, ◌^◌, Bool, ◌&&◌, nat_le, [], ◌∷◌, Some, map, slice_get}
+use Rattle.std.specs.Prelude.{ℕ, ◌≡◌, ◌<◌, ◌^◌, Bool, false, ◌&&◌, nat_le, [], ◌∷◌, Some, map, slice_get}
 use Rattle.un_isa.specs.declared.op.Op.{Op}
 use Rattle.un_isa.specs.declared.facts.Class.{Class}
 use Rattle.un_isa.specs.declared.facts.Class.TheVariants.{Alu32, Xtype, Loading, Storing, Control, Nothing}
@@ -36,7 +36,7 @@ needs_by Control = of_control
 needs_by Nothing = of_alu
 
 -- the latencies and the needs of all operations. A call clobbers r0 to r15, r28, r31 and p0 to p3, its arguments are in r0 to
--- r5 and its result in r0; a function keeps r16 to r27.
+-- r5 and its result in r0; a function keeps r16 to r27. Jumps test predicates of earlier packets alone.
 abbrev pub HEXAGON : Table
 HEXAGON = record {
   lat = map latency_by all_ops;
@@ -45,6 +45,7 @@ HEXAGON = record {
   args = 0 ∷ 1 ∷ 2 ∷ 3 ∷ 4 ∷ 5 ∷ [];
   result = 0;
   saved = 0x0FFF_0000;
+  fresh = false;
 }
 
 -- r16 to r27
@@ -60,3 +61,4 @@ pub record IsHexagon (t : Table) : Type 0 where
   pub no_others : (t.clobbered < 2 ^ REGISTERS) × (t.saved < 2 ^ REGISTERS)
   pub args : t.args ≡ 0 ∷ 1 ∷ 2 ∷ 3 ∷ 4 ∷ 5 ∷ []
   pub result : t.result ≡ 0
+  pub fresh : t.fresh ≡ false

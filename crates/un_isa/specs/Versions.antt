@@ -1,5 +1,5 @@
 -- The versions of reports: a version names the table that its reports are judged by.
-use Rattle.std.specs.Prelude.{ℕ, ◌≤◌}
+use Rattle.std.specs.Prelude.{ℕ, ◌≤◌, true, ◌==◌, if◌then◌else◌}
 use Rattle.un_isa.specs.declared.table.Table.{Table}
 use Rattle.un_isa.specs.declared.table.TheConstants.{LAST}
 use Rattle.un_isa.specs.Hexagon.{HEXAGON}
@@ -8,6 +8,10 @@ use Rattle.un_isa.specs.Hexagon.{HEXAGON}
 abbrev pub IsVersion : ℕ → Type 0
 IsVersion v = (1 ≤ v) × (v ≤ LAST)
 
--- the table that reports of a version are judged by: one for all that there are
+-- HEXAGON, where a jump may test what a compare of its own packet writes
+abbrev pub FRESH : Table
+FRESH = record HEXAGON { fresh = true }
+
+-- the table that reports of a version are judged by: from version 3 on a jump may do so
 abbrev pub table_of : ℕ → Table
-table_of v = HEXAGON
+table_of v = if v == 3 then FRESH else HEXAGON

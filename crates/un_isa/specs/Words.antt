@@ -6,7 +6,7 @@ use Rattle.std.specs.Int.{w32, cast_unsigned, cast_signed, int_shr}
 use Rattle.un_isa.specs.declared.op.Op.{Op}
 use Rattle.un_isa.specs.declared.op.Op.TheVariants.{Imm, Mov, Add, Sub, And, Or, Xor, Addi, Andi, Ori, Mux, CmpEq, CmpGt, CmpGtu, CmpEqi}
 use Rattle.un_isa.specs.declared.op.Op.TheVariants.{CmpGti, Mpyi, Asl, Asr, Lsr, Load, Store, Call, Jump, JumpIf, JumpIfNot, Jumpr, Spill}
-use Rattle.un_isa.specs.declared.op.Op.TheVariants.{Reload, P2R, R2P, Enter, Leave, Nop}
+use Rattle.un_isa.specs.declared.op.Op.TheVariants.{Reload, P2R, R2P, Enter, Leave, Nop, JumpIfNew, JumpIfNotNew}
 
 -- a number as a word
 abbrev pub word_of : ℤ → ℕ
@@ -58,6 +58,8 @@ value_of Reload a b c n = 0
 value_of Enter a b c n = 0
 value_of Leave a b c n = 0
 value_of Nop a b c n = 0
+value_of JumpIfNew a b c n = 0
+value_of JumpIfNotNew a b c n = 0
 
 -- the same of a list of operands
 abbrev pub eval : Op → List ℕ → ℤ → ℕ

@@ -58,6 +58,7 @@ pub fn value(op: Op, a: u32, b: u32, c: u32, imm: i32) -> u32
         Op::R2P => a % 2,
         Op::Load | Op::Store | Op::Call | Op::Spill | Op::Reload => 0,
         Op::Jump | Op::JumpIf | Op::JumpIfNot | Op::Jumpr => 0,
+        Op::JumpIfNew | Op::JumpIfNotNew => 0,
         Op::Enter | Op::Leave | Op::Nop => 0,
     }
 }

@@ -2,16 +2,19 @@
 
 ghost use Rattle.std.specs.Prelude.{◌≡◌};
 ghost use Rattle.un_isa.specs.Facts.{does_of};
-ghost use Rattle.un_isa.specs.Does.{is_call, is_return, is_jump, is_transfer, is_leaving};
+ghost use Rattle.un_isa.specs.Does.{is_call, is_return, is_jump, is_transfer, is_leaving, is_compare, is_branch, is_new};
 
 use crate::op::Op;
 
-/// When a jump is taken: always, or where its predicate is true, or where it is false.
+/// When a jump is taken: always, or where its predicate is true, or where it is false. A jump tests its predicate as it was before
+/// its packet, or as a compare of its own packet writes it.
 #[derive(Clone, Copy)]
 pub enum When {
     Always,
     IfTrue,
     IfFalse,
+    IfNewTrue,
+    IfNewFalse,
 }
 
 /// What an operation does.
@@ -66,6 +69,8 @@ pub fn does_of(op: Op) -> Does
         Op::Enter => Does::OpensFrame,
         Op::Leave => Does::ClosesFrame,
         Op::Nop => Does::Rests,
+        Op::JumpIfNew => Does::Jumps(When::IfNewTrue),
+        Op::JumpIfNotNew => Does::Jumps(When::IfNewFalse),
     }
 }
 
@@ -102,4 +107,31 @@ pub fn is_leaving(op: Op) -> bool
     ensures { result ≡ is_leaving op }
 {
     matches!(does_of(op), Does::Jumps(When::Always) | Does::Returns)
+}
+
+/// Whether it compares, and gives a predicate.
+pub fn is_compare(op: Op) -> bool
+    ensures { result ≡ is_compare op }
+{
+    matches!(does_of(op), Does::Compares)
+}
+
+/// Whether it jumps by a predicate of an earlier packet.
+pub fn is_branch(op: Op) -> bool
+    ensures { result ≡ is_branch op }
+{
+    matches!(
+        does_of(op),
+        Does::Jumps(When::IfTrue) | Does::Jumps(When::IfFalse)
+    )
+}
+
+/// Whether it jumps by the predicate that a compare of its own packet writes.
+pub fn is_new(op: Op) -> bool
+    ensures { result ≡ is_new op }
+{
+    matches!(
+        does_of(op),
+        Does::Jumps(When::IfNewTrue) | Does::Jumps(When::IfNewFalse)
+    )
 }

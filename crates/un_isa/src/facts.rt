@@ -47,6 +47,7 @@ pub fn class_of(op: Op) -> Class
         Op::Load | Op::Reload => Class::Loading,
         Op::Store | Op::Spill => Class::Storing,
         Op::Call | Op::Jump | Op::JumpIf | Op::JumpIfNot | Op::Jumpr => Class::Control,
+        Op::JumpIfNew | Op::JumpIfNotNew => Class::Control,
         Op::Nop => Class::Nothing,
     }
 }
@@ -59,7 +60,7 @@ pub fn operand_spaces(op: Op) -> &'static [Space]
         Op::Imm | Op::Call | Op::Jump | Op::Reload | Op::Enter | Op::Leave | Op::Nop => &[],
         Op::Mov | Op::Addi | Op::Andi | Op::Ori | Op::CmpEqi | Op::CmpGti => &[Space::R],
         Op::Asl | Op::Asr | Op::Lsr | Op::Load | Op::Jumpr | Op::Spill | Op::R2P => &[Space::R],
-        Op::JumpIf | Op::JumpIfNot | Op::P2R => &[Space::P],
+        Op::JumpIf | Op::JumpIfNot | Op::JumpIfNew | Op::JumpIfNotNew | Op::P2R => &[Space::P],
         Op::Add | Op::Sub | Op::And | Op::Or | Op::Xor | Op::Mpyi => &[Space::R, Space::R],
         Op::CmpEq | Op::CmpGt | Op::CmpGtu | Op::Store => &[Space::R, Space::R],
         Op::Mux => &[Space::P, Space::R, Space::R],
@@ -88,6 +89,7 @@ pub fn result_space(op: Op) -> Option<Space>
         Op::CmpEq | Op::CmpGt | Op::CmpGtu | Op::CmpEqi | Op::CmpGti => Some(Space::P),
         Op::R2P => Some(Space::P),
         Op::Store | Op::Jump | Op::JumpIf | Op::JumpIfNot | Op::Jumpr => None,
+        Op::JumpIfNew | Op::JumpIfNotNew => None,
         Op::Spill | Op::Enter | Op::Leave | Op::Nop => None,
     }
 }
@@ -105,6 +107,7 @@ pub fn literal_range(op: Op) -> Option<Range>
         Op::Mov | Op::Add | Op::Sub | Op::And | Op::Or | Op::Xor | Op::Mux => None,
         Op::CmpEq | Op::CmpGt | Op::CmpGtu | Op::Mpyi | Op::P2R | Op::R2P => None,
         Op::Call | Op::Jump | Op::JumpIf | Op::JumpIfNot | Op::Jumpr => None,
+        Op::JumpIfNew | Op::JumpIfNotNew => None,
         Op::Enter | Op::Leave | Op::Nop => None,
     }
 }
@@ -152,6 +155,7 @@ pub fn source_name(op: Op) -> &'static [u8]
         Op::Call => b"call",
         Op::Jump | Op::JumpIf | Op::JumpIfNot | Op::Jumpr | Op::Spill | Op::Reload => b"",
         Op::P2R | Op::R2P | Op::Enter | Op::Leave | Op::Nop => b"",
+        Op::JumpIfNew | Op::JumpIfNotNew => b"",
     }
 }
 
@@ -176,7 +180,7 @@ pub fn printed_name(op: Op) -> &'static [u8]
         Op::Lsr => b"lsr",
         Op::Load | Op::Store | Op::Spill | Op::Reload => b"memw",
         Op::Call => b"call",
-        Op::Jump | Op::JumpIf | Op::JumpIfNot => b"jump",
+        Op::Jump | Op::JumpIf | Op::JumpIfNot | Op::JumpIfNew | Op::JumpIfNotNew => b"jump",
         Op::Jumpr => b"jumpr",
         Op::Nop => b"nop",
     }

@@ -1,7 +1,7 @@
 //! Operations.
 
 /// How many operations there are.
-pub const OPERATIONS: usize = 34;
+pub const OPERATIONS: usize = 36;
 
 /// An operation of the source or an instruction of the processor. `does_of` says what each does, `value` what
 /// it computes.
@@ -41,4 +41,6 @@ pub enum Op {
     Enter,
     Leave,
     Nop,
+    JumpIfNew,
+    JumpIfNotNew,
 }

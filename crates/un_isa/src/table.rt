@@ -6,10 +6,11 @@ ghost use Rattle.un_isa.specs.Hexagon.{HEXAGON, IsHexagon};
 ghost use Rattle.un_isa.specs.Fit.{IsFit};
 ghost use Rattle.un_isa.specs.Versions.{IsVersion, table_of};
 
+use crate::does::{is_branch, is_compare};
 use crate::op::{OPERATIONS, Op};
 
 /// The last version of reports, which are numbered from 1.
-pub const LAST: u8 = 2;
+pub const LAST: u8 = 3;
 
 /// How many of each resource of a packet an instruction takes.
 #[derive(Clone, Copy)]
@@ -39,6 +40,8 @@ pub struct Table {
     pub result: u8,
     /// The registers that a function keeps.
     pub saved: u64,
+    /// Whether a jump may test what a compare of its own packet writes.
+    pub fresh: bool,
 }
 
 /// What an instruction of ALU32, and Nop, needs of a packet.
@@ -112,12 +115,14 @@ fn shares() -> [Needs; OPERATIONS]
     uses[Op::JumpIf as usize] = CONTROL;
     uses[Op::JumpIfNot as usize] = CONTROL;
     uses[Op::Jumpr as usize] = CONTROL;
+    uses[Op::JumpIfNew as usize] = CONTROL;
+    uses[Op::JumpIfNotNew as usize] = CONTROL;
     uses
 }
 
 /// The table of this project's profile of Hexagon V4: 2 cycles for Load, Reload and Mpyi, and 1 for all others. A call
 /// clobbers r0 to r15, r28, r31 and p0 to p3, its arguments are in r0 to r5 and its result in r0; a function keeps r16 to
-/// r27.
+/// r27. A jump tests predicates of earlier packets alone.
 pub fn hexagon() -> Table
     ensures table { result ≡ HEXAGON }
     ensures entries { IsHexagon result }
@@ -130,17 +135,25 @@ pub fn hexagon() -> Table
         args: [0, 1, 2, 3, 4, 5],
         result: 0,
         saved: 0x0FFF_0000,
+        fresh: false,
     }
 }
 
-/// The table that reports of a version are judged by.
+/// The table that reports of a version are judged by: from version 3 on a jump may test what a compare of its own packet writes.
 pub fn table_of(version: u8) -> Table
     requires { IsVersion version }
     ensures is { result ≡ table_of version }
     ensures fit { IsFit result }
 {
-    let _ = version;
-    hexagon()
+    let table = hexagon();
+    if version == 3 {
+        Table {
+            fresh: true,
+            ..table
+        }
+    } else {
+        table
+    }
 }
 
 /// The latency of an operation, in cycles: a register that it writes in cycle c can be read from cycle c + latency on.
@@ -150,13 +163,16 @@ pub fn latency(t: &Table, op: Op) -> u32
     t.lat[op as usize] as u32
 }
 
-/// How many cycles after an instruction another one, which reads what the first writes, may issue: the latency of the first,
-/// whatever the second is.
+/// How many cycles after an instruction another one, which reads what the first writes, may issue: the latency of the first, but
+/// none where the table lets a jump test what a compare of its own packet writes, and these are such.
 pub fn gap(t: &Table, definer: Op, user: Op) -> u32
     ensures { result ≡ gap_by t.now definer user }
 {
-    let _ = user;
-    latency(t, definer)
+    if is_branch(user) && is_compare(definer) && t.fresh {
+        0
+    } else {
+        latency(t, definer)
+    }
 }
 
 /// What an operation needs of a packet.

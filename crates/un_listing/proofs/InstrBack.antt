@@ -7,7 +7,7 @@ use Rattle.un_base.specs.Names.{is_name}
 use Rattle.un_isa.specs.declared.op.Op.{Op}
 use Rattle.un_isa.specs.declared.op.Op.TheVariants.{Imm, Mov, Add, Sub, And, Or, Xor, Addi, Andi, Ori, Mux, CmpEq, CmpGt, CmpGtu, CmpEqi}
 use Rattle.un_isa.specs.declared.op.Op.TheVariants.{CmpGti, Mpyi, Asl, Asr, Lsr, Load, Store, Call, Jump, JumpIf, JumpIfNot, Jumpr, Spill}
-use Rattle.un_isa.specs.declared.op.Op.TheVariants.{Reload, P2R, R2P, Enter, Leave, Nop}
+use Rattle.un_isa.specs.declared.op.Op.TheVariants.{Reload, P2R, R2P, Enter, Leave, Nop, JumpIfNew, JumpIfNotNew}
 use Rattle.un_isa.specs.declared.reg.TheConstants.{FRAME, FIRST_SLOT, REGISTERS}
 use Rattle.un_isa.specs.declared.reg.Space.{Space}
 use Rattle.un_isa.specs.declared.reg.Space.TheVariants.{R, P, M}
@@ -32,10 +32,10 @@ use Rattle.un_isa.specs.declared.facts.Range.TheVariants.{Signed16, Signed10, Un
 use Rattle.un_isa.specs.Operands.{InRange}
 use Rattle.un_listing.specs.Listing.{text_in}
 use Rattle.un_packet.specs.CodeRules.{number, HasItsBase, IsSomeName}
-use Rattle.un_listing.proofs.WordTexts.{reg_back}
+use Rattle.un_listing.proofs.WordTexts.{reg_back, fresh_back, stale_back}
 use Rattle.un_listing.proofs.InstrWords.{reg_word, AreRegs, literal_words, copied_words, computed_words, with_literal_words, loaded_words}
 use Rattle.un_listing.proofs.InstrWords.{stored_words, moved_words, called_words, jumped_words, jumped_if_words, jumped_if_not_words}
-use Rattle.un_listing.proofs.InstrWords.{returned_words, stack_says}
+use Rattle.un_listing.proofs.InstrWords.{jumped_if_new_words, jumped_if_not_new_words, returned_words, stack_says}
 
 -- ---- registers by their spaces
 
@@ -360,7 +360,7 @@ jump_if_op None (a ∷ b ∷ more) imm label w r l n = absurd (cc r)
 jump_if_op None (a ∷ []) imm None w r l n = absurd n
 jump_if_op None (a ∷ []) imm (Some label) w r l n =
     let ha : a.0 < REGISTERS = below a.0 P (λ e. cc e) (cc) in
-    rw l (ap instr_of (jumped_if_words a label ha n) ∙ rw ((reg_back a ha).reg) refl)
+    rw l (ap instr_of (jumped_if_words a label ha n) ∙ rw (stale_back a ha, (reg_back a ha).reg) refl)
 
 jump_if_not_op : (dst : Option Reg) (srcs : List Reg) (imm : ℤ) (label : Option (List ℕ))
     → option_map (λ (r : Reg). space_of r.0) dst ≡ None → Spaces srcs (P ∷ []) → imm ≡ pos 0 → IsSomeName label
@@ -372,6 +372,29 @@ jump_if_not_op None (a ∷ []) imm None w r l n = absurd n
 jump_if_not_op None (a ∷ []) imm (Some label) w r l n =
     let ha : a.0 < REGISTERS = below a.0 P (λ e. cc e) (cc) in
     rw l (ap instr_of (jumped_if_not_words a label ha n))
+
+jump_if_new_op : (dst : Option Reg) (srcs : List Reg) (imm : ℤ) (label : Option (List ℕ))
+    → option_map (λ (r : Reg). space_of r.0) dst ≡ None → Spaces srcs (P ∷ []) → imm ≡ pos 0 → IsSomeName label
+    → IsBack (instr JumpIfNew dst srcs imm label)
+jump_if_new_op (Some d) srcs imm label w r l n = absurd (cc w)
+jump_if_new_op None [] imm label w r l n = absurd (cc r)
+jump_if_new_op None (a ∷ b ∷ more) imm label w r l n = absurd (cc r)
+jump_if_new_op None (a ∷ []) imm None w r l n = absurd n
+jump_if_new_op None (a ∷ []) imm (Some label) w r l n =
+    let ha : a.0 < REGISTERS = below a.0 P (λ e. cc e) (cc) in
+    let f = (fresh_back a ha).fresh in
+    rw l (ap instr_of (jumped_if_new_words a label ha n) ∙ rw (f, f) refl)
+
+jump_if_not_new_op : (dst : Option Reg) (srcs : List Reg) (imm : ℤ) (label : Option (List ℕ))
+    → option_map (λ (r : Reg). space_of r.0) dst ≡ None → Spaces srcs (P ∷ []) → imm ≡ pos 0 → IsSomeName label
+    → IsBack (instr JumpIfNotNew dst srcs imm label)
+jump_if_not_new_op (Some d) srcs imm label w r l n = absurd (cc w)
+jump_if_not_new_op None [] imm label w r l n = absurd (cc r)
+jump_if_not_new_op None (a ∷ b ∷ more) imm label w r l n = absurd (cc r)
+jump_if_not_new_op None (a ∷ []) imm None w r l n = absurd n
+jump_if_not_new_op None (a ∷ []) imm (Some label) w r l n =
+    let ha : a.0 < REGISTERS = below a.0 P (λ e. cc e) (cc) in
+    rw l (ap instr_of (jumped_if_not_new_words a label ha n))
 
 jumpr_op : (dst : Option Reg) (srcs : List Reg) (imm : ℤ) (label : Option (List ℕ))
     → option_map (λ (r : Reg). space_of r.0) dst ≡ None → Spaces srcs (R ∷ []) → imm ≡ pos 0 → label ≡ None
@@ -409,6 +432,8 @@ instr_back frame small Call dst srcs imm label g = call_op dst srcs imm label g.
 instr_back frame small Jump dst srcs imm label g = jump_op dst srcs imm label g.writes g.reads g.literal g.label
 instr_back frame small JumpIf dst srcs imm label g = jump_if_op dst srcs imm label g.writes g.reads g.literal g.label
 instr_back frame small JumpIfNot dst srcs imm label g = jump_if_not_op dst srcs imm label g.writes g.reads g.literal g.label
+instr_back frame small JumpIfNew dst srcs imm label g = jump_if_new_op dst srcs imm label g.writes g.reads g.literal g.label
+instr_back frame small JumpIfNotNew dst srcs imm label g = jump_if_not_new_op dst srcs imm label g.writes g.reads g.literal g.label
 instr_back frame small Jumpr dst srcs imm label g = jumpr_op dst srcs imm label g.writes g.reads g.literal g.label
 instr_back frame small Nop dst srcs imm label g = nop_op dst srcs imm label g.writes g.reads g.literal g.label
 instr_back frame small Add dst srcs imm label g =

@@ -7,10 +7,11 @@ use Rattle.un_base.specs.Names.{is_name}
 use Rattle.un_isa.specs.declared.reg.Reg.{Reg}
 use Rattle.un_isa.specs.declared.reg.TheConstants.{REGISTERS}
 use Rattle.un_listing.specs.declared.word.Word.{Word}
-use Rattle.un_listing.specs.declared.word.Word.TheVariants.{Named, Literal, Negated}
+use Rattle.un_listing.specs.declared.word.Word.TheVariants.{Named, Literal, Negated, NegatedFresh}
 use Rattle.un_listing.specs.Listing.{joined, reg_text}
 use Rattle.un_listing.specs.ListingWords.{words_of}
-use Rattle.un_listing.proofs.WordTexts.{Says, stops, first_word, reg_back, name_says, negated_says, literal_says}
+use Rattle.un_listing.proofs.WordTexts.{Says, stops, first_word, reg_back, name_says, negated_says, fresh_back, negated_fresh_says}
+use Rattle.un_listing.proofs.WordTexts.{literal_says}
 
 abbrev pub reg_word : Reg → Word
 reg_word r = Named (reg_text r)
@@ -160,6 +161,11 @@ label_end label hl = only_word label (Named label) (name_says label hl)
 pub jumped_words : (label : List ℕ) → is_name label ≡ true → words_of (codes "jump " ++ label) ≡ Named (codes "jump") ∷ Named label ∷ []
 jumped_words label hl = and_then (Named (codes "jump")) _ _ (label_end label hl)
 
+-- the predicate's word ends behind `.new`
+behind_new : (text label : List ℕ) → (text ++ codes ".new) jump ") ++ label ≡ (text ++ codes ".new") ++ (codes ") jump " ++ label)
+behind_new text label =
+    append_assoc text (codes ".new) jump ") label ∙ sym (append_assoc text (codes ".new") (codes ") jump " ++ label))
+
 pub jumped_if_words : (p : Reg) (label : List ℕ) → p.0 < REGISTERS → is_name label ≡ true
     → words_of (codes "if (" ++ reg_text p ++ codes ") jump " ++ label)
     ≡ Named (codes "if") ∷ reg_word p ∷ Named (codes "jump") ∷ Named label ∷ []
@@ -175,6 +181,22 @@ jumped_if_not_words p label hp hl =
     and_then (Named (codes "if")) _ _ (ap words_of (append_assoc (33 ∷ reg_text p) (codes ") jump ") label)
     ∙ first_word (33 ∷ reg_text p) (Negated p) (negated_says (reg_text p) p (reg_back p hp)) (codes ") jump " ++ label) refl
     ∙ and_then (Negated p) _ _ (and_then (Named (codes "jump")) _ _ (label_end label hl)))
+
+pub jumped_if_new_words : (p : Reg) (label : List ℕ) → p.0 < REGISTERS → is_name label ≡ true
+    → words_of (codes "if (" ++ reg_text p ++ codes ".new) jump " ++ label)
+    ≡ Named (codes "if") ∷ Named (reg_text p ++ codes ".new") ∷ Named (codes "jump") ∷ Named label ∷ []
+jumped_if_new_words p label hp hl =
+    and_then (Named (codes "if")) _ _ (ap words_of (behind_new (reg_text p) label)
+    ∙ first_word (reg_text p ++ codes ".new") (Named (reg_text p ++ codes ".new")) (fresh_back p hp).says (codes ") jump " ++ label) refl
+    ∙ and_then (Named (reg_text p ++ codes ".new")) _ _ (and_then (Named (codes "jump")) _ _ (label_end label hl)))
+
+pub jumped_if_not_new_words : (p : Reg) (label : List ℕ) → p.0 < REGISTERS → is_name label ≡ true
+    → words_of (codes "if (!" ++ reg_text p ++ codes ".new) jump " ++ label)
+    ≡ Named (codes "if") ∷ NegatedFresh p ∷ Named (codes "jump") ∷ Named label ∷ []
+jumped_if_not_new_words p label hp hl =
+    and_then (Named (codes "if")) _ _ (ap words_of (behind_new (33 ∷ reg_text p) label)
+    ∙ first_word (33 ∷ (reg_text p ++ codes ".new")) (NegatedFresh p) (negated_fresh_says p hp) (codes ") jump " ++ label) refl
+    ∙ and_then (NegatedFresh p) _ _ (and_then (Named (codes "jump")) _ _ (label_end label hl)))
 
 pub returned_words : (a : Reg) → a.0 < REGISTERS → words_of (codes "jumpr " ++ reg_text a) ≡ Named (codes "jumpr") ∷ reg_word a ∷ []
 returned_words a ha = and_then (Named (codes "jumpr")) _ _ (reg_end a ha)

@@ -4,7 +4,7 @@ use Rattle.std.proofs.Common.{refl, lit<}
 use Rattle.std.proofs.lemmas.Fmt.{decimal_digit}
 use Rattle.un_isa.specs.declared.op.Op.TheVariants.{Imm, Mov, Add, Sub, And, Or, Xor, Addi, Andi, Ori, Mux, CmpEq, CmpGt, CmpGtu, CmpEqi}
 use Rattle.un_isa.specs.declared.op.Op.TheVariants.{CmpGti, Mpyi, Asl, Asr, Lsr, Load, Store, Call, Jump, JumpIf, JumpIfNot, Jumpr, Spill}
-use Rattle.un_isa.specs.declared.op.Op.TheVariants.{Reload, P2R, R2P, Enter, Leave, Nop}
+use Rattle.un_isa.specs.declared.op.Op.TheVariants.{Reload, P2R, R2P, Enter, Leave, Nop, JumpIfNew, JumpIfNotNew}
 use Rattle.un_isa.specs.declared.instr.Instr.{Instr}
 use Rattle.un_packet.proofs.Assembly.{r, named, i, packet, block}
 use Rattle.un_listing.specs.Listing.{instr_text, block_lines}
@@ -37,6 +37,8 @@ instrs =
     ∷ i Call None ([]) (pos 0) (named (codes "h.2"))
     ∷ i JumpIf None (32 ∷ []) (pos 0) (named (codes "loop"))
     ∷ i JumpIfNot None (33 ∷ []) (pos 0) (named (codes "loop"))
+    ∷ i JumpIfNew None (32 ∷ []) (pos 0) (named (codes "loop"))
+    ∷ i JumpIfNotNew None (35 ∷ []) (pos 0) (named (codes "loop"))
     ∷ i Spill None (6 ∷ []) (pos 8) None
     ∷ i Reload (r 6) ([]) (pos 8) None
     ∷ i P2R (r 0) (33 ∷ []) (pos 0) None
@@ -75,6 +77,8 @@ texts : map instr_text instrs ≡
     ∷ codes "call h.2()"
     ∷ codes "if (p0) jump loop"
     ∷ codes "if (!p1) jump loop"
+    ∷ codes "if (p0.new) jump loop"
+    ∷ codes "if (!p3.new) jump loop"
     ∷ codes "memw(r29+#8) = r6"
     ∷ codes "r6 = memw(r29+#8)"
     ∷ codes "r0 = p1"

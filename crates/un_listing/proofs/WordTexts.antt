@@ -1,7 +1,9 @@
 -- The words that registers, names and literals are.
 use Rattle.std.proofs.Common.{rules, ◌≡◌, ℕ, ℤ, pos, negsuc, suc, ◌+◌, ◌-◌, ◌^◌, ◌<◌, ◌≤◌, min, Bool, true, false, not, ◌&&◌, ◌||◌, ◌==◌}
-use Rattle.std.proofs.Common.{nat_lt, nat_le, List, [], ◌∷◌, ◌++◌, if◌then◌else◌, map, filter, length, slice_index, Some, refl, sym, ap}
-use Rattle.std.proofs.Common.{◌∙◌, subst, append-nil, arith, lt-ltb, ne_eqb, true≢false, zero-add, decimal, unsigned_abs}
+use Rattle.std.proofs.Common.{nat_eq, nat_lt, nat_le, List, [], ◌∷◌, ◌++◌, if◌then◌else◌, map, filter, length, slice_index, codes}
+use Rattle.std.proofs.Common.{Some, None, refl, sym, ap, ◌∙◌, subst, append-nil, arith, lt-ltb, ne_eqb, true≢false, zero-add, decimal}
+use Rattle.std.proofs.Common.{unsigned_abs, length-append}
+use Rattle.std.proofs.Math.Seq.{take-append_seam, drop-append_seam}
 use Rattle.std.specs.Fmt.{signed_decimal}
 use Rattle.std.specs.Char.{is_ascii_digit}
 use Rattle.std.specs.List.{list_all, slice_split}
@@ -16,9 +18,9 @@ use Rattle.un_isa.specs.declared.reg.Reg.{Reg}
 use Rattle.un_isa.specs.declared.reg.TheConstants.{REGISTERS}
 use Rattle.un_words.specs.Tokens.{digits_of, number_of}
 use Rattle.un_listing.specs.declared.word.Word.{Word}
-use Rattle.un_listing.specs.declared.word.Word.TheVariants.{Named, Literal, Negated}
+use Rattle.un_listing.specs.declared.word.Word.TheVariants.{Named, Literal, Negated, NegatedFresh}
 use Rattle.un_listing.specs.Listing.{reg_text}
-use Rattle.un_listing.specs.ListingWords.{reg_of, signed as signed_by, word_of, is_between, is_some_text, words_of}
+use Rattle.un_listing.specs.ListingWords.{reg_of, fresh_of, signed as signed_by, word_of, is_between, is_some_text, words_of}
 
 -- ---- words in a text
 
@@ -223,6 +225,109 @@ reg_back r h = by (nat_lt r.0 32) refl
 -- and behind an exclamation mark too
 pub negated_says : (text : List ℕ) (r : Reg) → IsRegText text r → Says (33 ∷ text) (Negated r)
 negated_says text r t = record { some = refl; inner = t.says.inner; spelt = rw t.reg refl }
+
+-- ---- registers with `.new` behind them
+
+-- a word that is read as this register with `.new` behind it, and as no register
+pub record IsFreshText (text : List ℕ) (r : Reg) : Type 0 where
+  pub says : Says text (Named text)
+  pub fresh : fresh_of text ≡ Some r
+  pub other : reg_of text ≡ None
+
+-- a text with `.new` behind it
+abbrev new_text : List ℕ → List ℕ
+new_text text = text ++ codes ".new"
+
+ends_new : (text : List ℕ) → fresh_of (new_text text) ≡ reg_of text
+ends_new text =
+    let long = length-append text (codes ".new") in
+    let cut : length (new_text text) - 4 ≡ length text = omega (arith, long) in
+    rw (cut, drop-append_seam text (codes ".new"), take-append_seam text (codes ".new")) refl
+
+no_digits : (text : List ℕ) → all_ascii_digits (new_text text) ≡ false
+no_digits [] = refl
+no_digits (b ∷ bs) = by (is_ascii_digit b) (no_digits bs)
+  where
+    by : (v : Bool) → all_ascii_digits (new_text bs) ≡ false → (v && all_ascii_digits (new_text bs)) ≡ false
+    by false h = refl
+    by true h = h
+
+and_false : (b : Bool) → (b && false) ≡ false
+and_false true = refl
+and_false false = refl
+
+no_digits_of : (negative : Bool) (text : List ℕ) → digits_of negative (new_text text) ≡ None
+no_digits_of negative text = rw (no_digits text, and_false (nat_lt 0 (length (new_text text)))) refl
+
+no_number : (text : List ℕ) → number_of (new_text text) ≡ None
+no_number [] = refl
+no_number (b ∷ bs) = by (b == 45)
+  where
+    by : (v : Bool) → (if v then digits_of true (new_text bs) else digits_of false (new_text (b ∷ bs))) ≡ None
+    by true = no_digits_of true bs
+    by false = no_digits_of false (b ∷ bs)
+
+rest_new : (text : List ℕ) → list_all is_rest text ≡ true → list_all is_rest (new_text text) ≡ true
+rest_new [] h = refl
+rest_new (b ∷ bs) h = let k = and_parts (is_rest b) (list_all is_rest bs) h in rw (k.0, rest_new bs k.1) refl
+
+sigil_new_name : (c n : ℕ) → is_first c ≡ true → is_rest c ≡ true → n < 2 ^ 32 → is_name (new_text (c ∷ decimal n)) ≡ true
+sigil_new_name c n first rest h =
+    let w = decimal_writes n h in
+    let long = length-append (decimal n) (codes ".new") in
+    is_name_by (new_text (c ∷ decimal n)) (record {
+      some = omega arith;
+      short = omega (arith, w.few, long);
+      first = first;
+      rest = rw (rest, rest_new (decimal n) (digits_rest (decimal n) n w)) refl;
+    })
+
+general_new_text : (n : ℕ) → n < 32 → IsFreshText (new_text (114 ∷ decimal n)) (record { 0 = n })
+general_new_text n h = record {
+  says = name_says (new_text (114 ∷ decimal n)) (sigil_new_name 114 n refl refl (omega arith));
+  fresh = ends_new (114 ∷ decimal n) ∙ (general_text n h).reg;
+  other = rw (no_number (decimal n)) refl;
+}
+
+predicate_new_text : (n : ℕ) → n < 4 → IsFreshText (new_text (112 ∷ decimal n)) (record { 0 = 32 + n })
+predicate_new_text n h = record {
+  says = name_says (new_text (112 ∷ decimal n)) (sigil_new_name 112 n refl refl (omega arith));
+  fresh = ends_new (112 ∷ decimal n) ∙ (predicate_text n h).reg;
+  other = rw (no_number (decimal n)) refl;
+}
+
+-- a register before `.new` is read back
+pub fresh_back : (r : Reg) → r.0 < REGISTERS → IsFreshText (reg_text r ++ codes ".new") r
+fresh_back r h = by (nat_lt r.0 32) refl
+  where
+    by : (v : Bool) → nat_lt r.0 32 ≡ v → IsFreshText (new_text (if v then 114 ∷ decimal r.0 else 112 ∷ decimal (r.0 - 32))) r
+    by true e = general_new_text r.0 (grind (arith, nat_tests))
+    by false e =
+        let low : 32 ≤ r.0 = grind (arith, nat_tests) in
+        let n : 32 + (r.0 - 32) ≡ r.0 = omega arith in
+        let t = predicate_new_text (r.0 - 32) (omega arith) in
+        subst (λ (k : ℕ). IsFreshText (new_text (112 ∷ decimal (r.0 - 32))) (record { 0 = k })) n t
+
+-- a text of three bytes at most has none behind it
+short_text : (c n : ℕ) → nat_eq 46 c ≡ false → n < 100 → fresh_of (c ∷ decimal n) ≡ None
+short_text c n other h =
+    let few = length-decimal-le 2 n (omega arith) (omega arith) (omega arith) in
+    let cut : length (c ∷ decimal n) - 4 ≡ 0 = omega (arith, few) in
+    rw (cut, other) refl
+
+-- and so no register has
+pub stale_back : (r : Reg) → r.0 < REGISTERS → fresh_of (reg_text r) ≡ None
+stale_back r h = by (nat_lt r.0 32)
+  where
+    by : (v : Bool) → fresh_of (if v then 114 ∷ decimal r.0 else 112 ∷ decimal (r.0 - 32)) ≡ None
+    by true = short_text 114 r.0 refl (omega arith)
+    by false = short_text 112 (r.0 - 32) refl (omega arith)
+
+-- what is before `.new` is read behind an exclamation mark too
+pub negated_fresh_says : (r : Reg) → r.0 < REGISTERS → Says (33 ∷ (reg_text r ++ codes ".new")) (NegatedFresh r)
+negated_fresh_says r h =
+    let t = fresh_back r h in
+    record { some = refl; inner = t.says.inner; spelt = rw (t.other, t.fresh) refl }
 
 -- ---- literals
 

@@ -4,13 +4,14 @@ use Rattle.un_isa.specs.declared.op.Op.{Op}
 use Rattle.un_isa.specs.declared.does.Does.{Does}
 use Rattle.un_isa.specs.declared.does.Does.TheVariants.{Computes, Compares, Moves, Loads, Stores, Spills, Reloads, Calls, Jumps, Returns}
 use Rattle.un_isa.specs.declared.does.Does.TheVariants.{OpensFrame, ClosesFrame, Rests}
-use Rattle.un_isa.specs.declared.does.When.TheVariants.{Always, IfTrue, IfFalse}
+use Rattle.un_isa.specs.declared.does.When.TheVariants.{Always, IfTrue, IfFalse, IfNewTrue, IfNewFalse}
 use Rattle.un_isa.specs.declared.facts.Range.{Range}
 use Rattle.un_isa.specs.declared.reg.Space.{Space}
 use Rattle.un_isa.specs.Facts.{does_of, operand_spaces, literal_range}
 use Rattle.un_listing.specs.declared.form.Form.{Form}
 use Rattle.un_listing.specs.declared.form.Form.TheVariants.{Literal, Copied, Computed, WithLiteral, Loaded, Stored, Reloaded, Spilled}
-use Rattle.un_listing.specs.declared.form.Form.TheVariants.{StackMoved, Called, Jumped, JumpedIf, JumpedIfNot, Returned, Idle}
+use Rattle.un_listing.specs.declared.form.Form.TheVariants.{StackMoved, Called, Jumped, JumpedIf, JumpedIfNot, JumpedIfNew, JumpedIfNotNew}
+use Rattle.un_listing.specs.declared.form.Form.TheVariants.{Returned, Idle}
 
 -- the form of what computes or compares, by its operands and its literal
 abbrev pub computed_form : List Space → Option Range → Form
@@ -32,6 +33,8 @@ form_by Calls _ = Called
 form_by (Jumps Always) _ = Jumped
 form_by (Jumps IfTrue) _ = JumpedIf
 form_by (Jumps IfFalse) _ = JumpedIfNot
+form_by (Jumps IfNewTrue) _ = JumpedIfNew
+form_by (Jumps IfNewFalse) _ = JumpedIfNotNew
 form_by Returns _ = Returned
 form_by Rests _ = Idle
 

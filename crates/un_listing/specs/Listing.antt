@@ -12,7 +12,8 @@ use Rattle.un_packet.specs.declared.code.CodeBlock.{CodeBlock}
 use Rattle.un_packet.specs.declared.code.Code.{Code}
 use Rattle.un_listing.specs.declared.form.Form.{Form}
 use Rattle.un_listing.specs.declared.form.Form.TheVariants.{Literal, Copied, Computed, WithLiteral, Loaded, Stored, Reloaded, Spilled}
-use Rattle.un_listing.specs.declared.form.Form.TheVariants.{StackMoved, Called, Jumped, JumpedIf, JumpedIfNot, Returned, Idle}
+use Rattle.un_listing.specs.declared.form.Form.TheVariants.{StackMoved, Called, Jumped, JumpedIf, JumpedIfNot, JumpedIfNew, JumpedIfNotNew}
+use Rattle.un_listing.specs.declared.form.Form.TheVariants.{Returned, Idle}
 use Rattle.un_isa.specs.Facts.{printed_name}
 use Rattle.un_listing.specs.Forms.{form_of}
 
@@ -67,6 +68,8 @@ text_in Called i = codes "call " ++ label_text i.label ++ operands_text i
 text_in Jumped i = codes "jump " ++ label_text i.label
 text_in JumpedIf i = codes "if (" ++ operand_text i 0 ++ codes ") jump " ++ label_text i.label
 text_in JumpedIfNot i = codes "if (!" ++ operand_text i 0 ++ codes ") jump " ++ label_text i.label
+text_in JumpedIfNew i = codes "if (" ++ operand_text i 0 ++ codes ".new) jump " ++ label_text i.label
+text_in JumpedIfNotNew i = codes "if (!" ++ operand_text i 0 ++ codes ".new) jump " ++ label_text i.label
 text_in Returned i = codes "jumpr " ++ operand_text i 0
 text_in Idle i = codes "nop"
 

@@ -1,7 +1,7 @@
 -- The words of an instruction's text: the longest parts of letters, digits and the bytes `_`, `.`, `#`, `-` and `!`.
-use Rattle.std.specs.Prelude.{ℕ, ℤ, pos, Bool, true, false, not, ◌||◌, ◌&&◌, ◌==◌, ◌+◌, nat_lt, nat_le, List, [], ◌∷◌, Option, Some, None}
-use Rattle.std.specs.Prelude.{map, filter, if◌then◌else◌}
-use Rattle.std.specs.List.{slice_split}
+use Rattle.std.specs.Prelude.{ℕ, ℤ, pos, Bool, true, false, not, ◌||◌, ◌&&◌, ◌==◌, ◌+◌, ◌-◌, nat_eq, nat_lt, nat_le, List, [], ◌∷◌, Option, Some, None}
+use Rattle.std.specs.Prelude.{codes, length, take, map, filter, if◌then◌else◌}
+use Rattle.std.specs.List.{slice_split, ends_with}
 use Rattle.std.specs.Option.{option_and_then, option_map_or}
 use Rattle.un_base.specs.Names.{is_name, is_rest}
 use Rattle.un_isa.specs.declared.reg.TheConstants.{GENERALS, PREDICATES}
@@ -10,7 +10,7 @@ use Rattle.un_words.specs.declared.token.Number.{Number}
 use Rattle.un_words.specs.Tokens.{number_of}
 use Rattle.un_packet.specs.CodeRules.{minus}
 use Rattle.un_listing.specs.declared.word.Word.{Word}
-use Rattle.un_listing.specs.declared.word.Word.TheVariants.{Named, Literal, Negated, Other}
+use Rattle.un_listing.specs.declared.word.Word.TheVariants.{Named, Literal, Negated, NegatedFresh, Other}
 
 -- ---- the readings of a word
 
@@ -29,6 +29,10 @@ reg_of (b ∷ bs) =
     else (if b == 112 then option_and_then (register_in GENERALS PREDICATES) (number_of bs)
     else None)
 
+-- a register with `.new` behind it
+abbrev pub fresh_of : List ℕ → Option Reg
+fresh_of bytes = if ends_with nat_eq bytes (codes ".new") then reg_of (take (length bytes - 4) bytes) else None
+
 abbrev pub signed : Bool → ℕ → ℤ
 signed true n = minus n
 signed false n = pos n
@@ -44,12 +48,16 @@ literal_of bytes = option_and_then small (number_of bytes)
 abbrev pub word_by : {A : Type 0} → (A → Word) → Option A → Word
 word_by make read = option_map_or make read Other
 
+-- what stands behind `!`
+abbrev pub negated_of : List ℕ → Word
+negated_of bytes = option_map_or Negated (reg_of bytes) (word_by NegatedFresh (fresh_of bytes))
+
 -- a number behind `#`, a register behind `!`, or a name
 abbrev pub word_of : List ℕ → Word
 word_of [] = Other
 word_of (b ∷ bs) =
     if b == 35 then word_by Literal (literal_of bs)
-    else (if b == 33 then word_by Negated (reg_of bs)
+    else (if b == 33 then negated_of bs
     else word_by Named (name_of (b ∷ bs)))
 
 -- ---- the words of a text

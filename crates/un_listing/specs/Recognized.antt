@@ -7,18 +7,19 @@ use Rattle.std.specs.Str.{bytes_eq}
 use Rattle.un_isa.specs.declared.op.Op.{Op}
 use Rattle.un_isa.specs.declared.op.Op.TheVariants.{Imm, Mov, Add, Sub, And, Or, Xor, Addi, Andi, Ori, Mux, CmpEq, CmpGt, CmpGtu, CmpEqi}
 use Rattle.un_isa.specs.declared.op.Op.TheVariants.{CmpGti, Mpyi, Asl, Asr, Lsr, Load, Store, Call, Jump, JumpIf, JumpIfNot, Jumpr, Spill}
+use Rattle.un_isa.specs.declared.op.Op.TheVariants.{JumpIfNew, JumpIfNotNew}
 use Rattle.un_isa.specs.declared.op.Op.TheVariants.{Reload, P2R, R2P, Enter, Leave, Nop}
 use Rattle.un_isa.specs.declared.reg.TheConstants.{STACK, GENERALS}
 use Rattle.un_isa.specs.declared.reg.Reg.{Reg}
 use Rattle.un_isa.specs.declared.instr.Instr.{Instr}
 use Rattle.un_listing.specs.declared.form.Form.{Form}
 use Rattle.un_listing.specs.declared.form.Form.TheVariants.{Literal as LiteralForm, Reloaded, Spilled, StackMoved, Called, Jumped, JumpedIf}
-use Rattle.un_listing.specs.declared.form.Form.TheVariants.{JumpedIfNot, Idle, Stored, Returned, Copied, Computed, WithLiteral, Loaded}
+use Rattle.un_listing.specs.declared.form.Form.TheVariants.{JumpedIfNot, JumpedIfNew, JumpedIfNotNew, Idle, Stored, Returned, Copied, Computed, WithLiteral, Loaded}
 use Rattle.un_isa.specs.Facts.{printed_name}
 use Rattle.un_listing.specs.Forms.{form_of}
 use Rattle.un_listing.specs.declared.word.Word.{Word}
-use Rattle.un_listing.specs.declared.word.Word.TheVariants.{Named, Literal, Negated, Other}
-use Rattle.un_listing.specs.ListingWords.{reg_of}
+use Rattle.un_listing.specs.declared.word.Word.TheVariants.{Named, Literal, Negated, NegatedFresh, Other}
+use Rattle.un_listing.specs.ListingWords.{reg_of, fresh_of}
 
 -- ---- words at their places
 
@@ -45,6 +46,15 @@ reg_in _ = None
 abbrev pub reg_at : ℕ → List Word → Option Reg
 reg_at k ws = reg_in (word_at k ws)
 
+-- the register before `.new`, also behind `!`
+abbrev pub fresh_in : Word → Option Reg
+fresh_in (Named name) = fresh_of name
+fresh_in (NegatedFresh reg) = Some reg
+fresh_in _ = None
+
+abbrev pub is_fresh_at : ℕ → List Word → Bool
+is_fresh_at k ws = is_some (fresh_in (word_at k ws))
+
 abbrev pub is_general : Reg → Bool
 is_general r = nat_lt r.0 GENERALS
 
@@ -63,6 +73,7 @@ literal_at k ws = literal_in (word_at k ws)
 
 abbrev pub is_negated : Word → Bool
 is_negated (Negated reg) = true
+is_negated (NegatedFresh reg) = true
 is_negated _ = false
 
 abbrev pub is_negated_at : ℕ → List Word → Bool
@@ -102,6 +113,13 @@ is_minus (negsuc n) = true
 abbrev pub moved_by : ℤ → Op
 moved_by n = if is_minus n then Enter else Leave
 
+-- a jump by a predicate, which is negated or not, and fresh or not
+abbrev pub branch_by : Bool → Bool → Op
+branch_by false false = JumpIf
+branch_by true false = JumpIfNot
+branch_by false true = JumpIfNew
+branch_by true true = JumpIfNotNew
+
 -- an operation that writes a register, the first word
 abbrev pub assigned_op : Reg → List Word → Option Op
 assigned_op d ws =
@@ -119,7 +137,7 @@ worded_op ws =
     else (if is_word_at 0 (codes "jump") ws then Some Jump
     else (if is_word_at 0 (codes "jumpr") ws then Some Jumpr
     else (if is_word_at 0 (codes "call") ws then Some Call
-    else (if is_word_at 0 (codes "if") ws then Some (if is_negated_at 1 ws then JumpIfNot else JumpIf)
+    else (if is_word_at 0 (codes "if") ws then Some (branch_by (is_negated_at 1 ws) (is_fresh_at 1 ws))
     else (if is_word_at 0 (codes "memw") ws then Some (if is_stack_at 1 ws then Spill else Store)
     else None)))))
 
@@ -144,6 +162,8 @@ first_operand Copied = 1
 first_operand Stored = 1
 first_operand JumpedIf = 1
 first_operand JumpedIfNot = 1
+first_operand JumpedIfNew = 1
+first_operand JumpedIfNotNew = 1
 first_operand Returned = 1
 first_operand _ = 2
 
@@ -160,8 +180,14 @@ operand_words Jumped = 0
 operand_words Idle = 0
 operand_words _ = 1
 
+-- the register of such a word
+abbrev pub operand_in : Form → Word → Option Reg
+operand_in JumpedIfNew w = fresh_in w
+operand_in JumpedIfNotNew w = fresh_in w
+operand_in _ w = reg_in w
+
 abbrev pub operands_in : Form → List Word → List Reg
-operands_in form ws = filter_map reg_in (take (operand_words form) (drop (first_operand form) ws))
+operands_in form ws = filter_map (operand_in form) (take (operand_words form) (drop (first_operand form) ws))
 
 -- the label
 abbrev pub label_in : Form → List Word → Option (List ℕ)
@@ -169,6 +195,8 @@ label_in Called ws = name_at 1 ws
 label_in Jumped ws = name_at 1 ws
 label_in JumpedIf ws = name_at 3 ws
 label_in JumpedIfNot ws = name_at 3 ws
+label_in JumpedIfNew ws = name_at 3 ws
+label_in JumpedIfNotNew ws = name_at 3 ws
 label_in _ ws = None
 
 abbrev pub result_in : Form → List Word → Option Reg

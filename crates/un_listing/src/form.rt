@@ -38,6 +38,10 @@ pub enum Form {
     JumpedIf,
     /// `if (!pA) jump L`
     JumpedIfNot,
+    /// `if (pA.new) jump L`
+    JumpedIfNew,
+    /// `if (!pA.new) jump L`
+    JumpedIfNotNew,
     /// `jumpr rA`
     Returned,
     /// `nop`
@@ -71,6 +75,8 @@ pub fn form_of(op: Op) -> Form
         Does::Jumps(When::Always) => Form::Jumped,
         Does::Jumps(When::IfTrue) => Form::JumpedIf,
         Does::Jumps(When::IfFalse) => Form::JumpedIfNot,
+        Does::Jumps(When::IfNewTrue) => Form::JumpedIfNew,
+        Does::Jumps(When::IfNewFalse) => Form::JumpedIfNotNew,
         Does::Returns => Form::Returned,
         Does::Rests => Form::Idle,
     }

@@ -74,14 +74,14 @@ fn put_called(out: &mut Vec<u8>, instr: &Instr) -> Result<(), NoMemory>
     put_operands(out, instr)
 }
 
-/// Appends an instruction of the form `if (pA) jump L`, whose text begins with `start`.
-fn put_jumped_if(out: &mut Vec<u8>, start: &[u8], instr: &Instr) -> Result<(), NoMemory>
+/// Appends an instruction of the form `if (pA) jump L`, with `start` before the predicate and `end` between it and the label.
+fn put_jumped_if(out: &mut Vec<u8>, start: &[u8], end: &[u8], instr: &Instr) -> Result<(), NoMemory>
     ensures { OnOk result (out.new.items ≡ out.old.items
-        ++ (start.now ++ operand_text instr.now 0 ++ codes ") jump " ++ label_text instr.now.label)) }
+        ++ (start.now ++ operand_text instr.now 0 ++ end.now ++ label_text instr.now.label)) }
 {
     put_text(out, start)?;
     put_operand(out, instr, 0)?;
-    put_text(out, b") jump ")?;
+    put_text(out, end)?;
     put_label(out, &instr.label)
 }
 
@@ -116,8 +116,10 @@ fn put_instr(out: &mut Vec<u8>, instr: &Instr) -> Result<(), NoMemory>
             put_text(out, b"jump ")?;
             put_label(out, &instr.label)
         }
-        Form::JumpedIf => put_jumped_if(out, b"if (", instr),
-        Form::JumpedIfNot => put_jumped_if(out, b"if (!", instr),
+        Form::JumpedIf => put_jumped_if(out, b"if (", b") jump ", instr),
+        Form::JumpedIfNot => put_jumped_if(out, b"if (!", b") jump ", instr),
+        Form::JumpedIfNew => put_jumped_if(out, b"if (", b".new) jump ", instr),
+        Form::JumpedIfNotNew => put_jumped_if(out, b"if (!", b".new) jump ", instr),
         Form::Returned => {
             put_text(out, b"jumpr ")?;
             put_operand(out, instr, 0)

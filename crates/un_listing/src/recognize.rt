@@ -3,13 +3,14 @@
 ghost use Rattle.std.specs.Prelude.{◌≡◌, IfOk, OnOk, ◌++◌, slice_get, take, drop, is_some, if◌then◌else◌};
 ghost use Rattle.std.specs.List.{filter_map, find};
 ghost use Rattle.std.specs.Option.{option_and_then};
+ghost use Rattle.un_listing.specs.Recognized.{fresh_in, is_fresh_at, branch_by, operand_in};
 ghost use Rattle.un_listing.specs.Recognized.{word_at, name_in, name_at, is_word_at, reg_in, reg_at, is_general, is_stack, is_stack_at};
 ghost use Rattle.un_listing.specs.Recognized.{literal_at, is_negated, is_negated_at, literal_or, literal_of_words, op_with, computed_ops};
 ghost use Rattle.un_listing.specs.Recognized.{literal_ops, copy_between, is_minus, moved_by, assigned_op, worded_op, op_of, has_result};
 ghost use Rattle.un_listing.specs.Recognized.{first_operand, operand_words, operands_in, label_in, result_in, instr_with, instr_of};
 
 use crate::form::{Form, form_of};
-use crate::word::{Word, read_reg};
+use crate::word::{Word, read_fresh, read_reg};
 use std::alloc::Global;
 use un_base::memory_error::NoMemory;
 use un_base::name::Name;
@@ -87,6 +88,17 @@ fn reg_in(word: &Word) -> Option<Reg>
     }
 }
 
+/// The register that the word is before `.new`, or has behind `!` and before `.new`.
+fn fresh_in(word: &Word) -> Option<Reg>
+    ensures { result ≡ fresh_in word.now }
+{
+    match word {
+        Word::Named(name) => read_fresh(name.as_bytes()),
+        Word::NegatedFresh(reg) => Some(*reg),
+        _ => None,
+    }
+}
+
 /// The register at place `k`.
 fn reg_at(words: &[Word], k: usize) -> Option<Reg>
     ensures { result ≡ reg_at k words.now }
@@ -118,7 +130,14 @@ fn literal_at(words: &[Word], k: usize) -> Option<i32>
 fn is_negated_at(words: &[Word], k: usize) -> bool
     ensures { result ≡ is_negated_at k words.now }
 {
-    matches!(word_at(words, k), Word::Negated(_))
+    matches!(word_at(words, k), Word::Negated(_) | Word::NegatedFresh(_))
+}
+
+/// Whether a register before `.new` stands at place `k`.
+fn is_fresh_at(words: &[Word], k: usize) -> bool
+    ensures { result ≡ is_fresh_at k words.now }
+{
+    fresh_in(&word_at(words, k)).is_some()
 }
 
 /// The first literal, or 0.
@@ -176,14 +195,15 @@ fn stored(is_frame: bool) -> Op
     if is_frame { Op::Spill } else { Op::Store }
 }
 
-/// A jump where a predicate is false, or true.
-fn branch(is_negated: bool) -> Op
-    ensures { result ≡ (if is_negated then Op.JumpIfNot else Op.JumpIf) }
+/// A jump where a predicate is false, or true, which its own packet writes or not.
+fn branch(is_negated: bool, is_fresh: bool) -> Op
+    ensures { result ≡ branch_by is_negated is_fresh }
 {
-    if is_negated {
-        Op::JumpIfNot
-    } else {
-        Op::JumpIf
+    match (is_negated, is_fresh) {
+        (false, false) => Op::JumpIf,
+        (true, false) => Op::JumpIfNot,
+        (false, true) => Op::JumpIfNew,
+        (true, true) => Op::JumpIfNotNew,
     }
 }
 
@@ -220,7 +240,7 @@ fn worded_op(words: &[Word]) -> Option<Op>
     } else if is_word_at(words, 0, b"call") {
         Some(Op::Call)
     } else if is_word_at(words, 0, b"if") {
-        Some(branch(is_negated_at(words, 1)))
+        Some(branch(is_negated_at(words, 1), is_fresh_at(words, 1)))
     } else if is_word_at(words, 0, b"memw") {
         Some(stored(is_stack_at(words, 1)))
     } else {
@@ -254,7 +274,8 @@ fn first_operand(form: Form) -> usize
     ensures { result ≡ first_operand form }
 {
     match form {
-        Form::Copied | Form::Stored | Form::JumpedIf | Form::JumpedIfNot | Form::Returned => 1,
+        Form::Copied | Form::Stored | Form::Returned => 1,
+        Form::JumpedIf | Form::JumpedIfNot | Form::JumpedIfNew | Form::JumpedIfNotNew => 1,
         _ => 2,
     }
 }
@@ -287,13 +308,23 @@ fn words_from(words: &[Word], from: usize, count: usize) -> &[Word]
     }
 }
 
-/// The registers among words.
-fn registers(alloc: Global, words: &[Word]) -> Result<Few<Reg>, NoMemory>
-    ensures { IfOk result (λ regs. regs ≡ filter_map reg_in words.now) }
+/// The register that a word is as an operand of the form.
+fn operand_in(form: Form, word: &Word) -> Option<Reg>
+    ensures { result ≡ operand_in form word.now }
+{
+    match form {
+        Form::JumpedIfNew | Form::JumpedIfNotNew => fresh_in(word),
+        _ => reg_in(word),
+    }
+}
+
+/// The registers among words, as operands of the form.
+fn registers(alloc: Global, form: Form, words: &[Word]) -> Result<Few<Reg>, NoMemory>
+    ensures { IfOk result (λ regs. regs ≡ filter_map (operand_in form) words.now) }
 {
     let mut regs = Few::new(alloc);
     for word in words {
-        if let Some(reg) = reg_in(word) {
+        if let Some(reg) = operand_in(form, word) {
             regs.push(reg)?;
         }
     }
@@ -307,6 +338,7 @@ fn label_in(form: Form, words: &[Word]) -> Option<Name>
     match form {
         Form::Called | Form::Jumped => name_at(words, 1),
         Form::JumpedIf | Form::JumpedIfNot => name_at(words, 3),
+        Form::JumpedIfNew | Form::JumpedIfNotNew => name_at(words, 3),
         _ => None,
     }
 }
@@ -317,7 +349,7 @@ fn instr_with(alloc: Global, op: Op, words: &[Word]) -> Result<Instr, NoMemory>
 {
     let form = form_of(op);
     let operands = words_from(words, first_operand(form), operand_words(form));
-    let srcs = registers(alloc, operands)?;
+    let srcs = registers(alloc, form, operands)?;
     Ok(Instr {
         op,
         dst: result_in(form, words),

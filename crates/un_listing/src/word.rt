@@ -5,7 +5,7 @@ ghost use Rattle.std.specs.Prelude.{filter, option_map};
 ghost use Rattle.std.specs.List.{slice_split, position_or_len};
 ghost use Rattle.std.specs.Option.{option_and_then};
 ghost use Rattle.un_listing.specs.ListingWords.{name_of, register_in, reg_of, signed, small, literal_of, word_by, word_of, is_between};
-ghost use Rattle.un_listing.specs.ListingWords.{spelled, words_of};
+ghost use Rattle.un_listing.specs.ListingWords.{spelled, words_of, fresh_of, negated_of};
 
 use std::alloc::Global;
 use un_base::memory_error::NoMemory;
@@ -15,12 +15,14 @@ use un_lists::items::Items;
 use un_words::number::read_number;
 use un_words::token::Number;
 
-/// A word by its form: a name, which may spell a register; a number behind `#`; a register behind `!`; or none of these.
+/// A word by its form: a name, which may spell a register, also with `.new` behind it; a number behind `#`; a register behind `!`,
+/// with `.new` behind it or not; or none of these.
 #[derive(Clone, Copy)]
 pub enum Word {
     Named(Name),
     Literal(i32),
     Negated(Reg),
+    NegatedFresh(Reg),
     Other,
 }
 
@@ -46,6 +48,16 @@ pub fn read_reg(bytes: &[u8]) -> Option<Reg>
         b'p' => register_in(GENERALS, PREDICATES, read_number(rest)?),
         _ => None,
     }
+}
+
+/// The register that the bytes spell with `.new` behind it.
+pub fn read_fresh(bytes: &[u8]) -> Option<Reg>
+    ensures { result ≡ fresh_of bytes.now }
+{
+    if !bytes.ends_with(b".new") {
+        return None;
+    }
+    read_reg(&bytes[..bytes.len() - 4])
 }
 
 /// The number with its sign, where it is small.
@@ -76,13 +88,23 @@ fn literal(bytes: &[u8]) -> Word
     }
 }
 
+/// A register behind `!` and before `.new`.
+fn negated_fresh(bytes: &[u8]) -> Word
+    ensures { result ≡ word_by Word.NegatedFresh (fresh_of bytes.now) }
+{
+    match read_fresh(bytes) {
+        Some(reg) => Word::NegatedFresh(reg),
+        None => Word::Other,
+    }
+}
+
 /// A register behind `!`.
 fn negated(bytes: &[u8]) -> Word
-    ensures { result ≡ word_by Word.Negated (reg_of bytes.now) }
+    ensures { result ≡ negated_of bytes.now }
 {
     match read_reg(bytes) {
         Some(reg) => Word::Negated(reg),
-        None => Word::Other,
+        None => negated_fresh(bytes),
     }
 }
 

@@ -22,7 +22,8 @@ use Rattle.un_isa.specs.Operands.{IsLiteralOf}
 use Rattle.un_packet.specs.CodeRules.{IsGoodInstr, ReadsItsSpaces, WritesItsSpace, HasItsNumber, HasLabelOf}
 use Rattle.un_listing.specs.declared.form.Form.{Form}
 use Rattle.un_listing.specs.declared.form.Form.TheVariants.{Literal, Copied, Computed, WithLiteral, Loaded, Stored, Reloaded, Spilled}
-use Rattle.un_listing.specs.declared.form.Form.TheVariants.{StackMoved, Called, Jumped, JumpedIf, JumpedIfNot, Returned, Idle}
+use Rattle.un_listing.specs.declared.form.Form.TheVariants.{StackMoved, Called, Jumped, JumpedIf, JumpedIfNot, JumpedIfNew, JumpedIfNotNew}
+use Rattle.un_listing.specs.declared.form.Form.TheVariants.{Returned, Idle}
 use Rattle.un_listing.specs.declared.word.Word.{Word}
 use Rattle.un_isa.specs.Facts.{printed_name}
 use Rattle.un_listing.specs.Forms.{form_of}
@@ -185,6 +186,10 @@ module _ (i : Instr) (t : IsTame i) where
   branch_clean = clean_append (operand_text i 0 ++ codes ") jump ") (label_text i.label)
       (clean_append (operand_text i 0) (codes ") jump ") (operand_at 0) refl) (label_clean i.label t.label)
 
+  new_branch_clean : IsClean (operand_text i 0 ++ codes ".new) jump " ++ label_text i.label)
+  new_branch_clean = clean_append (operand_text i 0 ++ codes ".new) jump ") (label_text i.label)
+      (clean_append (operand_text i 0) (codes ".new) jump ") (operand_at 0) refl) (label_clean i.label t.label)
+
   text_clean : (form : Form) → IsClean (text_in form i)
   text_clean Literal = clean_append (result_text i) (literal_text i) result_clean literal_clean
   text_clean Copied = clean_append (result_text i) (operand_text i 0) result_clean (operand_at 0)
@@ -212,6 +217,8 @@ module _ (i : Instr) (t : IsTame i) where
   text_clean Jumped = label_clean i.label t.label
   text_clean JumpedIf = branch_clean
   text_clean JumpedIfNot = branch_clean
+  text_clean JumpedIfNew = new_branch_clean
+  text_clean JumpedIfNotNew = new_branch_clean
   text_clean Returned = operand_at 0
   text_clean Idle = refl
 

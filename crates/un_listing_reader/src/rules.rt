@@ -10,14 +10,14 @@ ghost use Rattle.un_isa.specs.PacketCounts.{FitPacket};
 ghost use Rattle.un_isa.specs.Registers.{space_of};
 ghost use Rattle.un_listing_reader.specs.Needed.{counts_from, is_distinct};
 ghost use Rattle.un_packet.specs.CodeRules.{ReadsItsSpaces, WritesItsSpace, HasItsBase, HasItsNumber, HasItsLabel, IsGoodInstr};
-ghost use Rattle.un_packet.specs.CodeRules.{IsGoodPacket, IsSomeName, written, needs_of, number};
+ghost use Rattle.un_packet.specs.CodeRules.{IsGoodPacket, IsSomeName, HasItsCompare, gives_predicate, written, needs_of, number};
 ghost use Rattle.un_isa.specs.Does.{is_nop};
 
 use crate::needs::fit_packet;
 use std::alloc::Global;
 use un_base::memory_error::NoMemory;
 use un_base::name::Name;
-use un_isa::does::{Does, does_of};
+use un_isa::does::{Does, does_of, is_compare, is_new};
 use un_isa::facts::{is_in_range, literal_range, operand_spaces, result_space};
 use un_isa::instr::Instr;
 use un_isa::op::Op;
@@ -210,6 +210,53 @@ fn idles_alone(instrs: &[Instr]) -> bool
     !has_nop(instrs) || instrs.len() == 1
 }
 
+/// Whether it is a compare that writes the register with this number.
+fn gives_predicate(n: u32, i: &Instr) -> bool
+    ensures { result ≡ gives_predicate n i.now }
+{
+    match i.dst {
+        Some(reg) => reg.0 == n && is_compare(i.op),
+        None => false,
+    }
+}
+
+/// Whether one of them is a compare that writes the register with this number.
+fn is_compared(instrs: &[Instr], n: u32) -> bool
+    ensures { result ≡ list_any (gives_predicate n) instrs.now }
+{
+    for i in instrs {
+        if gives_predicate(n, i) {
+            return true;
+        }
+    }
+    false
+}
+
+/// Whether a compare among these writes what the instruction tests, where it tests what its own packet writes.
+fn has_its_compare(instrs: &[Instr], i: &Instr) -> bool
+    ensures { IsTrue result ↔ (HasItsCompare instrs.now i.now) }
+{
+    if !is_new(i.op) {
+        return true;
+    }
+    match i.srcs.as_slice() {
+        [pred, ..] => is_compared(instrs, pred.0),
+        [] => is_compared(instrs, 0),
+    }
+}
+
+/// Whether each jump on a fresh predicate has its compare beside it.
+fn have_compares(instrs: &[Instr]) -> bool
+    ensures { IsTrue result ↔ (All (HasItsCompare instrs.now) instrs.now) }
+{
+    for i in instrs {
+        if !has_its_compare(instrs, i) {
+            return false;
+        }
+    }
+    true
+}
+
 /// Appends the registers that an instruction writes.
 fn push_written(out: &mut Vec<u32>, i: &Instr) -> Result<(), NoMemory>
     ensures { OnOk result (out.new.items ≡ out.old.items ++ written i.now) }
@@ -274,7 +321,7 @@ pub fn is_good_packet(alloc: Global, frame: u32, packet: &Packet) -> Result<bool
     if instrs.is_empty() || !fit_packet(instrs) || !idles_alone(instrs) {
         return Ok(false);
     }
-    if !are_good(frame, instrs) {
+    if !are_good(frame, instrs) || !have_compares(instrs) {
         return Ok(false);
     }
     let regs = all_written(alloc, instrs)?;

@@ -33,7 +33,7 @@ use Rattle.un_model.specs.Arcs.{own_instr, value_read, defines, reads_from, data
 use Rattle.un_model.specs.Arcs.{blocks_arcs}
 use Rattle.un_model.specs.Arcs.NeedsGap.{ByData, ByMemory}
 use Rattle.un_model.proofs.Operations.{placed_get}
-use Rattle.un_model.proofs.Gaps.{gap_latency}
+use Rattle.un_model.proofs.Gaps.{gap_copy, gap_within}
 use Rattle.un_model.specs.Instructions.{instruction_of, latency_by}
 use Rattle.un_model.proofs.Lists.{Member, any_of, place_of, member_at, member_append_left, member_append_right, index_get, length_get}
 use Rattle.un_model.proofs.Lists.{slice_get-map}
@@ -41,7 +41,7 @@ use Rattle.un_model.proofs.PlacedSchedules.{all, spots, issue_here, one_spot, de
 use Rattle.un_model.specs.Options.{AreOptions}
 use Rattle.un_model.proofs.Placed.{Placed, Region, region_placed, blocks_placed, block_placed, issue_at, vars_of, Spot, temp_vars}
 use Rattle.un_model.proofs.Placed.{temps_are, at_number, all_count}
-use Rattle.un_model.proofs.Readings.{Solved, numbered, fit_kinds, placed_good, Reading, reading, waited_latency, zip_get}
+use Rattle.un_model.proofs.Readings.{Solved, numbered, fit_kinds, placed_good, Reading, reading, zip_get}
 use Rattle.un_model.specs.Schedules.{issues_of, schedule_of, value_by}
 use Rattle.un_model.specs.Solutions.{IsSchedule, IsSolution, Precedes, memory_distance, latency_gap}
 use Rattle.un_model.proofs.TempKinds.{carried_at, spot_carried, carried_is}
@@ -130,28 +130,28 @@ module _ (e : Ext) (o : Options) (values : List ℕ) (h : Solved e o values) whe
 
   -- ---- data
 
-  -- the cycle from which what a result's definer gives can be read
-  abbrev ready_at : Spot → ℕ
-  ready_at s = (issue_at values s.definer).cycle + latency_by e.table (issue_at values s.definer).instr
+  -- the cycle from which an operation may read what a result's definer gives
+  abbrev ready_for : Placed → Spot → ℕ
+  ready_for q s = (issue_at values s.definer).cycle + latency_gap e.table (issue_at values s.definer).instr (issue_at values q).instr
 
-  -- an operation reads values no earlier than their definers give them, whatever carries them
+  -- an operation reads values no earlier than it may after their definers, whatever carries them
   abbrev Waits : Placed → Type 0
   Waits q = (j : ℕ) (x : Operand) (s : Spot) → Member q (all e o values) → (issue_at values q).active ≡ true
       → slice_get q.op.operands j ≡ Some x → Member s (spots e o values) → s.temp ≡ temp (first_of x.alts)
-      → ready_at s ≤ (issue_at values q).cycle
+      → ready_for q s ≤ (issue_at values q).cycle
 
   wait_step : (q : Placed) → ((p : Placed) → p.number < q.number → Waits p) → Waits q
   wait_step q below j x s m act at ms is = given (reading e o values h q j x m act at).0 (reading e o values h q j x m act at).2
     where
-      given : (want : Want) → Reading e o values h q j x want → ready_at s ≤ (issue_at values q).cycle
+      given : (want : Want) → Reading e o values h q j x want → ready_for q s ≤ (issue_at values q).cycle
       given want r = by r.spot.definer.op.kind refl
         where
           range : range_at e o values r.spot.temp.0 ≡ spot_range e o values r.spot
           range = range_here e o values (numbered e o values h) r.spot r.member
 
-          ready : ready_at r.spot ≤ (issue_at values q).cycle
-          ready = subst (λ (v : LiveRange). v.from + latency_by e.table v.instr ≤ (issue_at values q).cycle) range
-              (waited_latency e o values h q j x want r)
+          ready : ready_for q r.spot ≤ (issue_at values q).cycle
+          ready = subst (λ (v : LiveRange). v.from + latency_gap e.table v.instr (issue_at values q).instr ≤ (issue_at values q).cycle) range
+              r.ready
 
           active : (issue_at values r.spot.definer).active ≡ true
           active = subst (λ (v : LiveRange). v.active ≡ true) range r.active
@@ -160,17 +160,17 @@ module _ (e : Ext) (o : Options) (values : List ℕ) (h : Solved e o values) whe
           value = sym (carried_is e o values (numbered e o values h) (fit_kinds e o values h) r.spot r.member) ∙ r.value ∙ sym is
 
           -- the value itself is read
-          own : spot_carried r.spot ≡ r.spot.temp → ready_at s ≤ (issue_at values q).cycle
+          own : spot_carried r.spot ≡ r.spot.temp → ready_for q s ≤ (issue_at values q).cycle
           own c =
               let one = one_spot e o values (numbered e o values h) r.spot s r.member ms (ap (λ (t : TempId). t.0) (sym c ∙ value)) in
-              subst (λ (z : Spot). ready_at z ≤ (issue_at values q).cycle) one ready
+              subst (λ (z : Spot). ready_for q z ≤ (issue_at values q).cycle) one ready
 
           here : Member r.spot.definer (all e o values)
           here = definer_in e o values (numbered e o values h) r.spot r.member
 
           -- a copy is read, which waits itself
           copied : (node : NodeCopy) (xs : List Operand) → r.spot.definer.op.kind ≡ Copy node → r.spot.definer.op.operands ≡ xs
-              → ready_at s ≤ (issue_at values q).cycle
+              → ready_for q s ≤ (issue_at values q).cycle
           copied node [] k f =
               let p = r.spot.definer in
               let g = placed_good e o values h p here in
@@ -184,9 +184,16 @@ module _ (e : Ext) (o : Options) (values : List ℕ) (h : Solved e o values) whe
               let p = r.spot.definer in
               let first : spot_carried r.spot ≡ temp (first_of y.alts) = ap (λ (z : ExtKind). carried_at z r.spot) k ∙ ap first_read f in
               let before = below p r.earlier 0 y s here active (ap (λ (xs : List Operand). slice_get xs 0) f) ms (sym value ∙ first) in
-              omega (arith, before, ready)
+              -- it waits for what it copies as long as any reader
+              let n = value_by values (vars_of p).instr in
+              let waits : latency_gap e.table (issue_at values s.definer).instr (issue_at values p).instr
+              ≡ latency_by e.table (issue_at values s.definer).instr =
+              ap (λ (z : ExtKind). latency_gap e.table (issue_at values s.definer).instr (instruction_of z n)) k
+              ∙ gap_copy e.table (issue_at values s.definer).instr n in
+              let within = gap_within e.table (issue_at values s.definer).instr (issue_at values q).instr in
+              omega (arith, before, ready, waits, within)
 
-          by : (k : ExtKind) → r.spot.definer.op.kind ≡ k → ready_at s ≤ (issue_at values q).cycle
+          by : (k : ExtKind) → r.spot.definer.op.kind ≡ k → ready_for q s ≤ (issue_at values q).cycle
           by (Copy node) f = copied node r.spot.definer.op.operands f refl
           by In f = own (ap (λ (z : ExtKind). carried_at z r.spot) f)
           by Out f = own (ap (λ (z : ExtKind). carried_at z r.spot) f)
@@ -259,16 +266,18 @@ module _ (e : Ext) (o : Options) (values : List ℕ) (h : Solved e o values) whe
 
   by_data : (p q : Placed) → Member p (all e o values) → Member q (all e o values) → is_mandatory p.op.kind ≡ true
       → is_mandatory q.op.kind ≡ true → reads_from (blocks_temps 0 0 e.blocks) p.number q.op ≡ true
-      → (issue_at values p).cycle + latency_by e.table (own_instr p.op) ≤ (issue_at values q).cycle
+      → (issue_at values p).cycle + latency_gap e.table (own_instr p.op) (own_instr q.op) ≤ (issue_at values q).cycle
   by_data p q mp mq a b reads =
       let r = any_of (λ (x : Operand). defines (blocks_temps 0 0 e.blocks) p.number (value_read x)) q.op.operands reads in
       let x = r.0 in
       let at = place_of q.op.operands x r.1 in
       let s = defined_by p (value_read x) mp r.2 in
       let w = waits (suc q.number) q (omega arith) at.0 x s.0 mq (reads_active q at.0 x mq b at.2) at.2 s.1 (s.2 ∙ sym (own_value x)) in
-      let here : (issue_at values p).cycle + latency_by e.table (issue_at values p).instr ≤ (issue_at values q).cycle = subst
-      (λ (z : Placed). (issue_at values z).cycle + latency_by e.table (issue_at values z).instr ≤ (issue_at values q).cycle) s.3 w in
-      subst (λ (i : Option Op). (issue_at values p).cycle + latency_by e.table i ≤ (issue_at values q).cycle) (own_is p a) here
+      let to : Option Op = (issue_at values q).instr in
+      let here : (issue_at values p).cycle + latency_gap e.table (issue_at values p).instr to ≤ (issue_at values q).cycle = subst
+      (λ (z : Placed). (issue_at values z).cycle + latency_gap e.table (issue_at values z).instr to ≤ (issue_at values q).cycle) s.3 w in
+      subst (λ (i : Option Op). (issue_at values p).cycle + latency_gap e.table (own_instr p.op) i ≤ (issue_at values q).cycle) (own_is q b)
+      (subst (λ (i : Option Op). (issue_at values p).cycle + latency_gap e.table i to ≤ (issue_at values q).cycle) (own_is p a) here)
 
   -- ---- arcs
 
@@ -283,9 +292,8 @@ module _ (e : Ext) (o : Options) (values : List ℕ) (h : Solved e o values) whe
       by true f =
           let is : data_gap e.table true p.op q.op ≡ Some g = sym (ap (λ (r : Bool). data_gap e.table r p.op q.op) f) ∙ gap in
           let k : latency_gap e.table (own_instr p.op) (own_instr q.op) ≡ g = cc is in
-          let l = gap_latency e.table (own_instr p.op) (own_instr q.op) in
           let w = by_data p q mp mq a b f in
-          omega (arith, k, l, w)
+          omega (arith, k, w)
       by false f =
           let is : data_gap e.table false p.op q.op ≡ Some g = sym (ap (λ (r : Bool). data_gap e.table r p.op q.op) f) ∙ gap in
           absurd (cc is)

@@ -23,7 +23,7 @@ use Rattle.un_model.specs.declared.model.Options.{Options}
 use Rattle.un_model.specs.declared.model.TempVars.{TempVars}
 use Rattle.un_model.specs.declared.schedule.LiveRange.{LiveRange}
 use Rattle.un_model.specs.Emission.{temp_register, register_by}
-use Rattle.un_model.proofs.Gaps.{gap_latency}
+use Rattle.un_model.proofs.Gaps.{is_fresh_in, gap_whole}
 use Rattle.un_model.specs.Instructions.{latency_by, space_read}
 use Rattle.un_model.specs.Options.{AreOptions}
 use Rattle.un_model.specs.Schedules.{choice_of, value_by, read_of, schedule_of}
@@ -191,11 +191,12 @@ module _ (e : Ext) (o : Options) (values : List ℕ) (h : Solved e o values) whe
       first_in [] lt = absurd (omega arith)
       first_in (y ∷ ys) lt = inl refl
 
-  -- what is read was given its definer's latency before
+  -- what is read was given its definer's latency before, where it is not tested fresh
   pub waited_latency : (p : Placed) (j : ℕ) (x : Operand) (want : Want) (r : Reading p j x want)
+      → is_fresh_in e.table (range_at e o values r.spot.temp.0).instr (issue_at values p).instr ≡ false
       → (range_at e o values r.spot.temp.0).from + latency_by e.table (range_at e o values r.spot.temp.0).instr ≤ (issue_at values p).cycle
-  waited_latency p j x want r =
-      let g = gap_latency e.table (range_at e o values r.spot.temp.0).instr (issue_at values p).instr in
+  waited_latency p j x want r stale =
+      let g = gap_whole e.table (range_at e o values r.spot.temp.0).instr (issue_at values p).instr stale in
       let late = r.ready in
       omega (arith, g, late)
 

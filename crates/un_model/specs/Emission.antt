@@ -1,6 +1,6 @@
 -- The code of a solution: which instructions issue in each cycle of a block, how large the frame is, and where the values at a
 -- block's start stand.
-use Rattle.std.specs.Prelude.{ℕ, ◌+◌, ◌-◌, ◌*◌, ◌/◌, ◌==◌, ◌&&◌, nat_le, ℤ, pos, neg_ℤ, if◌then◌else◌, List, [], ◌∷◌, Option, Some, None}
+use Rattle.std.specs.Prelude.{ℕ, Bool, false, ◌+◌, ◌-◌, ◌*◌, ◌/◌, ◌==◌, ◌&&◌, nat_le, ℤ, pos, neg_ℤ, if◌then◌else◌, List, [], ◌∷◌, Option, Some, None}
 use Rattle.std.specs.Prelude.{map, fold, max, slice_get}
 use Rattle.std.specs.List.{range_with_len, position_or_len, zip}
 use Rattle.std.specs.Option.{option_map, option_to_list}
@@ -8,7 +8,7 @@ use Rattle.un_base.specs.declared.ids.BlockId.{BlockId}
 use Rattle.un_base.specs.declared.ids.NameId.{NameId}
 use Rattle.un_base.specs.declared.ids.TempId.{TempId}
 use Rattle.un_isa.specs.declared.op.Op.{Op}
-use Rattle.un_isa.specs.declared.op.Op.TheVariants.{Call, Spill, Reload, Nop}
+use Rattle.un_isa.specs.declared.op.Op.TheVariants.{Call, JumpIf, JumpIfNot, Spill, Reload, Nop, JumpIfNew, JumpIfNotNew}
 use Rattle.un_isa.specs.declared.reg.TheConstants.{FIRST_SLOT}
 use Rattle.un_isa.specs.declared.reg.Reg.{Reg}
 use Rattle.un_isa.specs.declared.instr.Instr.{Instr}
@@ -29,7 +29,7 @@ use Rattle.un_model.specs.Congruences.{live_in_temps}
 use Rattle.un_model.specs.Cost.{value_of}
 use Rattle.un_model.specs.Pairs.{places_from, joined}
 use Rattle.un_model.specs.Registers.{reg_at}
-use Rattle.un_model.specs.Schedules.{choice_of, cycle_of, instr_of, schedule_of}
+use Rattle.un_model.specs.Schedules.{choice_of, cycle_of, instr_of, schedule_of, value_by}
 
 -- ---- registers
 
@@ -111,10 +111,41 @@ instr_by blocks frame (Copy node) op srcs dst = Some (copy_instr op srcs dst)
 instr_by blocks frame Enter op srcs dst = Some (stack_instr op (neg_ℤ (pos frame)))
 instr_by blocks frame Leave op srcs dst = Some (stack_instr op (pos frame))
 
+-- ---- jumps that test what their own packets write
+
+-- the jump that does so, for one that tests a predicate of an earlier packet
+abbrev pub new_op : Op → Op
+new_op JumpIf = JumpIfNew
+new_op JumpIfNot = JumpIfNotNew
+new_op op = op
+
+-- a temporary that is defined in this cycle
+abbrev pub is_from : ℕ → Option LiveRange → Bool
+is_from cycle None = false
+is_from cycle (Some range) = range.from == cycle
+
+abbrev pub reads_beside : List LiveRange → List ℕ → OpVars → Option Operand → Bool
+reads_beside ranges values vars None = false
+reads_beside ranges values vars (Some x) = is_from (value_by values vars.cycle) (slice_get ranges (choice_of values vars 0 x).0)
+
+-- whether what an operation reads first is defined in its own cycle, where temporaries have these live ranges
+abbrev pub is_beside : List LiveRange → List ℕ → ExtOp → OpVars → Bool
+is_beside ranges values op vars = reads_beside ranges values vars (slice_get op.operands 0)
+
+-- a terminator beside what it reads tests that
+abbrev pub emitted_by : Bool → ExtKind → Op → Op
+emitted_by beside (End term) op = if beside then new_op op else op
+emitted_by beside _ op = op
+
+-- the operation of the instruction as which an operation is emitted that issues this one
+abbrev pub emitted_op : Model → List ℕ → ExtOp → OpVars → Op → Op
+emitted_op m values op vars instr = emitted_by (is_beside (schedule_of m values).ranges values op vars) op.kind instr
+
 abbrev pub instr_if : Model → List ℕ → ExtOp → OpVars → Option Op → Option Instr
 instr_if m values op vars None = None
 instr_if m values op vars (Some instr) =
-    instr_by m.ext.blocks (frame_of m values) op.kind instr (operand_registers m values op vars) (result_register m values op)
+    instr_by m.ext.blocks (frame_of m values) op.kind (emitted_op m values op vars instr) (operand_registers m values op vars)
+    (result_register m values op)
 
 -- the instruction of an operation, none where it is inactive, and none of a block's start and of its end
 abbrev pub emitted_instr : Model → List ℕ → ExtOp → OpVars → Option Instr

@@ -10,7 +10,7 @@ use Rattle.un_isa.specs.declared.reg.TheConstants.{FIRST_SLOT}
 use Rattle.un_isa.specs.Registers.{space_of}
 use Rattle.un_isa.specs.declared.table.Table.{Table}
 use Rattle.un_isa.specs.Tables.{latency_of, gap_by, in_mask}
-use Rattle.un_isa.specs.Does.{is_transfer}
+use Rattle.un_isa.specs.Does.{is_branch, is_transfer}
 use Rattle.un_domains.specs.declared.domain.Domain.{Domain}
 use Rattle.un_domains.specs.declared.domain.Domain.TheVariants.{Range, Set}
 use Rattle.un_model.specs.declared.model.Model.{Model}
@@ -110,6 +110,11 @@ abbrev pub latency_gap : Table → Gap
 latency_gap t None user = 1
 latency_gap t (Some definer) None = latency_of t definer
 latency_gap t (Some definer) (Some user) = gap_by t definer user
+
+-- how long an instruction waits at least, whatever gives what it reads
+abbrev pub least_wait : Table → Option Op → ℕ
+least_wait t None = 1
+least_wait t (Some user) = if is_branch user && t.fresh then 0 else 1
 
 abbrev pub KeepsLatencies : Gap → Schedule → Type 0
 KeepsLatencies gap t = All IsPlaced t.issues × All (λ (r : Read). LeavesGap gap r (slice_get t.ranges r.temp.0)) t.reads

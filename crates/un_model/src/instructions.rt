@@ -1,13 +1,14 @@
 //! What the operations of an extended function are as instructions.
 
-ghost use Rattle.std.specs.Prelude.{◌≡◌, ◌^◌, ◌<◌};
+ghost use Rattle.std.specs.Prelude.{◌≡◌, ◌^◌, ◌<◌, ◌≤◌};
 ghost use Rattle.un_model.specs.Instructions.{transfer_of, copy_of, frame_instr, instruction_of, latency_by, needs_by, no_needs};
 ghost use Rattle.un_model.specs.Instructions.{operand_space_in, result_space_in, space_read, space_given};
 ghost use Rattle.un_model.specs.Instructions.{is_predicate_space, gives_truth};
-ghost use Rattle.un_model.specs.Solutions.{share_of, latency_gap};
+ghost use Rattle.un_model.specs.Solutions.{share_of, latency_gap, least_wait};
 
 use un_ir::extended::{ExtKind, FROM_PREDICATE, MOVE, RELOAD, SPILL, TO_PREDICATE};
 use un_ir::function::Term;
+use un_isa::does::is_branch;
 use un_isa::facts::{operand_space, result_space};
 use un_isa::op::Op;
 use un_isa::packet_counts::{self, Resource};
@@ -73,8 +74,8 @@ pub fn latency(t: &Table, op: Option<Op>) -> u32
     }
 }
 
-/// How many cycles after its definer a user of what that gives may issue: 1 after what is there at a block's start, and the
-/// definer's latency at a block's end.
+/// How many cycles after its definer a user of what that gives may issue, as the table says: 1 after what is there at a block's
+/// start, and the definer's latency at a block's end.
 pub fn gap(t: &Table, definer: Option<Op>, user: Option<Op>) -> u32
     ensures { result ≡ latency_gap t.now definer user }
 {
@@ -84,6 +85,17 @@ pub fn gap(t: &Table, definer: Option<Op>, user: Option<Op>) -> u32
             None => table::latency(t, given),
             Some(reading) => table::gap(t, given, reading),
         },
+    }
+}
+
+/// How many cycles an instruction waits at least, whatever gives what it reads.
+pub fn least_wait(t: &Table, user: Option<Op>) -> u32
+    ensures wait { result ≡ least_wait t.now user }
+    ensures small { result ≤ 1 }
+{
+    match user {
+        None => 1,
+        Some(reading) => { if is_branch(reading) && t.fresh { 0 } else { 1 } }
     }
 }
 

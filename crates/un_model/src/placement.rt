@@ -24,7 +24,7 @@ use un_isa::op::Op;
 use un_lists::items::Items;
 
 /// The value of a variable that not every operation has, 0 where there is none.
-fn optional_value(values: &[u32], v: Option<VarId>) -> u32
+pub fn optional_value(values: &[u32], v: Option<VarId>) -> u32
     ensures { result ≡ value_by values.now v }
 {
     match v {

@@ -3,7 +3,7 @@ use Rattle.std.proofs.Common.{ℕ, zero, suc, pos, negsuc, ◌≡◌, ◌+◌, �
 use Rattle.std.proofs.Common.{arith, lit<}
 use Rattle.std.specs.Prelude.{codes, slice_index}
 use Rattle.std.proofs.lemmas.Int.{ints}
-use Rattle.un_isa.specs.declared.op.Op.TheVariants.{Imm, Mov, Add, Mpyi, Load, Store, Call, Jump, Jumpr, Reload, Enter, Leave, Nop}
+use Rattle.un_isa.specs.declared.op.Op.TheVariants.{Imm, Mov, Add, CmpGti, Mpyi, Load, Store, Call, Jump, Jumpr, Reload, R2P, Enter, Leave, Nop, JumpIfNew}
 use Rattle.un_isa.specs.declared.instr.Instr.{Instr}
 use Rattle.un_isa.specs.declared.reg.TheConstants.{FRAME}
 use Rattle.un_packet.specs.declared.code.Packet.{Packet}
@@ -102,6 +102,18 @@ two_writers h = h.one_writer 0 1 0 (lit< tt) (lit< tt) refl
 
 call_and_link : IsGoodPacket 0 (packet (i Call None [] (pos 0) (named (codes "h")) ∷ moved 31 ∷ [])) → ⊥
 call_and_link h = h.one_writer 6 11 0 (lit< tt) (lit< tt) refl
+
+abbrev tested : Instr
+tested = i JumpIfNew None (32 ∷ []) (pos 0) (named (codes "t"))
+
+no_compare : IsGoodPacket 0 (packet (tested ∷ [])) → ⊥
+no_compare h = let k = h.fresh 0 tested (lit< tt) in cc k
+
+another_predicate : IsGoodPacket 0 (packet (i CmpGti (r 33) (0 ∷ []) (pos 0) None ∷ tested ∷ [])) → ⊥
+another_predicate h = let k = h.fresh 1 tested (lit< tt) in cc k
+
+moved_predicate : IsGoodPacket 0 (packet (i R2P (r 32) (0 ∷ []) (pos 0) None ∷ tested ∷ [])) → ⊥
+moved_predicate h = let k = h.fresh 1 tested (lit< tt) in cc k
 
 -- ---- instructions, in code with a frame of 8 bytes
 

@@ -2,7 +2,7 @@
 use Rattle.std.specs.Prelude.{ℕ, pos, negsuc, ◌≡◌, List, [], ◌∷◌, ◌++◌, None, codes, replicate}
 use Rattle.std.proofs.Common.{refl}
 use Rattle.un_isa.specs.declared.op.Op.TheVariants.{Imm, Add, Sub, And, Or, Xor, Addi, Ori, Mux, CmpGtu, CmpEqi, CmpGti, Mpyi, Asl, Lsr}
-use Rattle.un_isa.specs.declared.op.Op.TheVariants.{Load, Store, Call, Jump, JumpIf, JumpIfNot, Jumpr, Spill, P2R, R2P, Enter, Leave, Nop}
+use Rattle.un_isa.specs.declared.op.Op.TheVariants.{Load, Store, Call, Jump, JumpIf, JumpIfNot, Jumpr, Spill, P2R, R2P, Enter, Leave, Nop, JumpIfNotNew}
 use Rattle.un_isa.specs.declared.start.Start.{Start}
 use Rattle.un_packet.specs.declared.code.CodeBlock.{CodeBlock}
 use Rattle.un_packet.specs.Step.{Returned, Trapped, Running}
@@ -374,3 +374,45 @@ run_14_start = record {
 
 run_14 : told (run_of 0 run_14_blocks run_14_start 3) ≡ (Trapped, run_14_memory, [], 1)
 run_14 = refl
+
+-- A compare and the jump that tests what it writes; the predicate was true before.
+abbrev run_15_blocks : List CodeBlock
+run_15_blocks =
+    block (codes "l0") (
+    packet (i And (r 31) (3 ∷ 31 ∷ []) (pos 0) None
+    ∷ i Or (r 6) (31 ∷ 16 ∷ []) (pos 0) None ∷ [])
+    ∷
+    packet (i And (r 31) (1 ∷ 1 ∷ []) (pos 0) None ∷ [])
+    ∷
+    packet (i Nop None ([]) (pos 0) None ∷ [])
+    ∷
+    packet (i CmpGti (r 32) (3 ∷ []) (pos 80) None
+    ∷ i JumpIfNotNew None (32 ∷ []) (pos 0) (named (codes "l0")) ∷ [])
+    ∷ [])
+    ∷
+    block (codes "l1") (
+    packet (i JumpIfNot None (33 ∷ []) (pos 0) (named (codes "l2")) ∷ [])
+    ∷ [])
+    ∷
+    block (codes "l2") (
+    packet (i Jump None ([]) (pos 0) (named (codes "l0")) ∷ [])
+    ∷ [])
+    ∷ []
+
+abbrev run_15_memory : List (ℕ × ℕ)
+run_15_memory =
+    (0, 1) ∷ (4, 4294967292) ∷ (8, 148) ∷ (12, 12) ∷ (16, 4) ∷ (20, 60) ∷ (24, 124) ∷ (28, 97) ∷ (32, 96) ∷ (36, 128) ∷ []
+
+abbrev run_15_start : Start
+run_15_start = record {
+  regs =
+      (181 ∷ 72 ∷ 2 ∷ 28 ∷ 44 ∷ 4294967292 ∷ 28 ∷ 64 ∷ 32 ∷ 2147483647 ∷ 144 ∷ 64 ∷ 123 ∷ 140 ∷ 124 ∷ 1 ∷ 129 ∷ 152 ∷ 4 ∷ 40 ∷ 108 ∷
+      36 ∷ 32 ∷ 104 ∷ 48 ∷ 2147483647 ∷ 52 ∷ 104 ∷ 2147483647 ∷ 4008 ∷ 100 ∷ 156 ∷ 1 ∷ 0 ∷ 0 ∷ 1 ∷ []);
+  memory = run_15_memory;
+  replies =
+      [];
+  well = refl;
+}
+
+run_15 : told (run_of 8 run_15_blocks run_15_start 1) ≡ (Running 0, run_15_memory, [], 4)
+run_15 = refl

@@ -20,7 +20,7 @@ use Rattle.un_isa.specs.declared.op.Op.{Op}
 use Rattle.un_isa.specs.declared.op.Op.TheVariants.{Call, Enter, Leave}
 use Rattle.un_isa.specs.declared.does.Does.{Does}
 use Rattle.un_isa.specs.declared.does.Does.TheVariants.{Calls, Jumps, Returns}
-use Rattle.un_isa.specs.declared.does.When.TheVariants.{Always, IfTrue, IfFalse}
+use Rattle.un_isa.specs.declared.does.When.TheVariants.{Always, IfTrue, IfFalse, IfNewTrue, IfNewFalse}
 use Rattle.un_isa.specs.declared.reg.Reg.{Reg}
 use Rattle.un_isa.specs.declared.instr.Instr.{Instr}
 use Rattle.un_isa.specs.declared.start.Reply.{Reply}
@@ -38,7 +38,7 @@ use Rattle.un_packet.specs.Machine.{LeadsTo}
 use Rattle.un_packet.specs.Run.{packets_run, then_packets, label_place}
 use Rattle.un_packet.specs.Runnable.{IsRunnable, AreRunnable}
 use Rattle.un_packet.specs.Step.{PacketState, PacketStep, Went, Jumped, Stopped, Trapped, traps, packet_step, with_call, leads, jumps}
-use Rattle.un_packet.specs.Step.{goes_by, operand_in, after, answered, issue_cycle, record_of}
+use Rattle.un_packet.specs.Step.{goes_by, operand_in, operand_of, regs_after, after, answered, issue_cycle, record_of}
 
 pub at_all : {X : Type 0} (P : X → Type 0) (xs : List X) (k : ℕ) (x : X) → All P xs → slice_get xs k ≡ Some x → P x
 at_all P [] k x h e = absurd (cc e)
@@ -110,20 +110,23 @@ head_none : {X : Type 0} (p : X → Bool) (x : X) (xs : List X) (b : Bool) → p
 head_none p x xs true e h = absurd (let k = rw e at h in cc k)
 head_none p x xs false e h = let k = rw e at h in (e, k)
 
-not_leaving : (does : Does) (v : ℕ) → returns does ≡ false → goes_by does v ≡ false → leaves_always does ≡ false
-not_leaving (Jumps Always) v r j = absurd (cc j)
-not_leaving (Jumps IfTrue) v r j = refl
-not_leaving (Jumps IfFalse) v r j = refl
-not_leaving Returns v r j = absurd (cc r)
-not_leaving _ v r j = refl
+not_leaving : (does : Does) (v w : ℕ) → returns does ≡ false → goes_by does v w ≡ false → leaves_always does ≡ false
+not_leaving (Jumps Always) v w r j = absurd (cc j)
+not_leaving (Jumps IfTrue) v w r j = refl
+not_leaving (Jumps IfFalse) v w r j = refl
+not_leaving (Jumps IfNewTrue) v w r j = refl
+not_leaving (Jumps IfNewFalse) v w r j = refl
+not_leaving Returns v w r j = absurd (cc r)
+not_leaving _ v w r j = refl
 
-none_leaves : (s : PacketState) (is : List Instr) → find (λ (i : Instr). is_return i.op) is ≡ None → find (jumps s) is ≡ None
-    → list_any (λ (i : Instr). is_leaving i.op) is ≡ false
-none_leaves s [] r j = refl
-none_leaves s (i ∷ is) r j =
+-- by the state before a packet and the registers behind its writes
+none_leaves : (s : PacketState) (new : List ℕ) (is : List Instr) → find (λ (i : Instr). is_return i.op) is ≡ None
+    → find (jumps s new) is ≡ None → list_any (λ (i : Instr). is_leaving i.op) is ≡ false
+none_leaves s new [] r j = refl
+none_leaves s new (i ∷ is) r j =
     let a = head_none (λ (i : Instr). is_return i.op) i is (is_return i.op) refl r in
-    let b = head_none (jumps s) i is (jumps s i) refl j in
-    rw (not_leaving (does_of i.op) (operand_in s i 0) a.0 b.0) (none_leaves s is a.1 b.1)
+    let b = head_none (jumps s new) i is (jumps s new i) refl j in
+    rw (not_leaving (does_of i.op) (operand_in s i 0) (operand_of new i 0) a.0 b.0) (none_leaves s new is a.1 b.1)
 
 -- what a packet's step may be, where its jumps lead to one of the labels
 abbrev IsInside : List (List ℕ) → List Instr → PacketStep → Type 0
@@ -131,42 +134,43 @@ IsInside labels is (Went s) = list_any (λ (i : Instr). is_leaving i.op) is ≡ 
 IsInside labels is (Jumped label s) = Contains labels label
 IsInside labels is (Stopped stop s) = Unit {0}
 
-found_by : (labels : List (List ℕ)) (s : PacketState) (j : Instr) (js : List Instr) (i : Instr) (b : Bool) → jumps s j ≡ b
-    → LeadsToOneOf labels j → find (jumps s) (j ∷ js) ≡ Some i
-    → (find (jumps s) js ≡ Some i → LeadsToOneOf labels i × (jumps s i ≡ true)) → LeadsToOneOf labels i × (jumps s i ≡ true)
-found_by labels s j js i true e one f more = let k = rw e at f in let same : j ≡ i = cc k in rw (← same) (one, e)
-found_by labels s j js i false e one f more = let k = rw e at f in more k
+found_by : (labels : List (List ℕ)) (s : PacketState) (new : List ℕ) (j : Instr) (js : List Instr) (i : Instr) (b : Bool)
+    → jumps s new j ≡ b → LeadsToOneOf labels j → find (jumps s new) (j ∷ js) ≡ Some i
+    → (find (jumps s new) js ≡ Some i → LeadsToOneOf labels i × (jumps s new i ≡ true)) → LeadsToOneOf labels i × (jumps s new i ≡ true)
+found_by labels s new j js i true e one f more = let k = rw e at f in let same : j ≡ i = cc k in rw (← same) (one, e)
+found_by labels s new j js i false e one f more = let k = rw e at f in more k
 
-found_jump : (labels : List (List ℕ)) (s : PacketState) (is : List Instr) (i : Instr) → All (LeadsToOneOf labels) is
-    → find (jumps s) is ≡ Some i → LeadsToOneOf labels i × (jumps s i ≡ true)
-found_jump labels s [] i all f = absurd (cc f)
-found_jump labels s (j ∷ js) i all f = found_by labels s j js i (jumps s j) refl (all 0 j (omega arith)) f
-    (found_jump labels s js i (λ n d lt. all (suc n) d (omega arith)))
+found_jump : (labels : List (List ℕ)) (s : PacketState) (new : List ℕ) (is : List Instr) (i : Instr) → All (LeadsToOneOf labels) is
+    → find (jumps s new) is ≡ Some i → LeadsToOneOf labels i × (jumps s new i ≡ true)
+found_jump labels s new [] i all f = absurd (cc f)
+found_jump labels s new (j ∷ js) i all f = found_by labels s new j js i (jumps s new j) refl (all 0 j (omega arith)) f
+    (found_jump labels s new js i (λ n d lt. all (suc n) d (omega arith)))
 
-jumping : (does : Does) (v : ℕ) → goes_by does v ≡ true → jumps_to does ≡ true
-jumping (Jumps when) v h = refl
-jumping _ v h = absurd (cc h)
+jumping : (does : Does) (v w : ℕ) → goes_by does v w ≡ true → jumps_to does ≡ true
+jumping (Jumps when) v w h = refl
+jumping _ v w h = absurd (cc h)
 
 label_in : (labels : List (List ℕ)) (o : Option (List ℕ)) → IsSomeAnd o (Contains labels) → Contains labels (unwrap_or o [])
 label_in labels None h = absurd h
 label_in labels (Some label) h = h
 
 leads_in : (labels : List (List ℕ)) (s u : PacketState) (is : List Instr) → All (LeadsToOneOf labels) is → (r j : Option Instr)
-    → find (λ (i : Instr). is_return i.op) is ≡ r → find (jumps s) is ≡ j → IsInside labels is (leads r s is u)
+    → find (λ (i : Instr). is_return i.op) is ≡ r → find (jumps s (regs_after s is s.regs)) is ≡ j → IsInside labels is (leads r s is u)
 leads_in labels s u is all (Some i) j er ej = tt
-leads_in labels s u is all None None er ej = rw ej (none_leaves s is er ej)
+leads_in labels s u is all None None er ej = rw ej (none_leaves s (regs_after s is s.regs) is er ej)
 leads_in labels s u is all None (Some i) er ej =
-    let f = found_jump labels s is i all ej in
-    rw ej (label_in labels i.label (OnTrue_at (jumping (does_of i.op) (operand_in s i 0) f.1) f.0))
+    let new = regs_after s is s.regs in
+    let f = found_jump labels s new is i all ej in
+    rw ej (label_in labels i.label (OnTrue_at (jumping (does_of i.op) (operand_in s i 0) (operand_of new i 0) f.1) f.0))
 
 with_in : (t : Table) (labels : List (List ℕ)) (s : PacketState) (is : List Instr) → All (LeadsToOneOf labels) is
     → (call : Option Instr) (replies : List Reply) → IsInside labels is (with_call t call replies s is)
 with_in t labels s is all None replies = leads_in labels s (after t (issue_cycle s is) s is) is all
-    (find (λ (i : Instr). is_return i.op) is) (find (jumps s) is) refl refl
+    (find (λ (i : Instr). is_return i.op) is) (find (jumps s (regs_after s is s.regs)) is) refl refl
 with_in t labels s is all (Some call) [] = tt
 with_in t labels s is all (Some call) (reply ∷ rest) = leads_in labels s
     (answered t (record_of s call) reply rest (after t (issue_cycle s is) s is)) is all (find (λ (i : Instr). is_return i.op) is)
-    (find (jumps s) is) refl refl
+    (find (jumps s (regs_after s is s.regs)) is) refl refl
 
 packet_in : (t : Table) (labels : List (List ℕ)) (s : PacketState) (is : List Instr) → All (LeadsToOneOf labels) is
     → IsInside labels is (packet_step t is s)

@@ -2,7 +2,7 @@
 use Rattle.std.specs.Prelude.{ℕ, pos, negsuc, ◌≡◌, List, [], ◌∷◌, ◌++◌, None, codes, replicate}
 use Rattle.std.proofs.Common.{refl}
 use Rattle.un_isa.specs.declared.op.Op.TheVariants.{Imm, Mov, Add, Addi, CmpEq, CmpGti, Mpyi, Load, Store, Call, JumpIf, Jumpr, Spill}
-use Rattle.un_isa.specs.declared.op.Op.TheVariants.{Reload, P2R, Enter, Leave, Nop}
+use Rattle.un_isa.specs.declared.op.Op.TheVariants.{Reload, P2R, Enter, Leave, Nop, JumpIfNew, JumpIfNotNew}
 use Rattle.un_isa.specs.declared.start.Start.{Start}
 use Rattle.un_packet.specs.declared.code.CodeBlock.{CodeBlock}
 use Rattle.un_packet.specs.Step.{Returned, Trapped, Waiting, Running}
@@ -368,3 +368,59 @@ reply_writes_start = record {
 reply_writes : told (run_of 0 reply_writes_blocks reply_writes_start 2) ≡
     (Returned 1050 77, ((8, 2) ∷ []), record_of (codes "h") (5 ∷ []) reply_writes_memory ∷ [], 3)
 reply_writes = refl
+
+-- A jump tests what the compare of its own packet writes, in its cycle.
+abbrev branch_by_new_blocks : List CodeBlock
+branch_by_new_blocks =
+    block (codes "e") (
+    packet (i CmpGti (r 32) (0 ∷ []) (pos 0) None
+    ∷ i JumpIfNew None (32 ∷ []) (pos 0) (named (codes "t")) ∷ [])
+    ∷ [])
+    ∷
+    block (codes "u") (
+    packet (i Imm (r 0) ([]) (pos 7) None
+    ∷ i Jumpr None (31 ∷ []) (pos 0) None ∷ [])
+    ∷ [])
+    ∷
+    block (codes "t") (
+    packet (i Jumpr None (31 ∷ []) (pos 0) None ∷ [])
+    ∷ [])
+    ∷ []
+
+abbrev branch_by_new_memory : List (ℕ × ℕ)
+branch_by_new_memory =
+    []
+
+abbrev branch_by_new_start : Start
+branch_by_new_start = record {
+  regs =
+      (5 ∷ []) ++ replicate 30 0 ++ (100 ∷ []) ++ replicate 4 0;
+  memory = branch_by_new_memory;
+  replies =
+      [];
+  well = refl;
+}
+
+branch_by_new : told (run_of 0 branch_by_new_blocks branch_by_new_start 5) ≡ (Returned 5 100, branch_by_new_memory, [], 2)
+branch_by_new = refl
+
+-- The same where it is wanted false: the new predicate is true, and the old one was false.
+abbrev branch_by_not_new_blocks : List CodeBlock
+branch_by_not_new_blocks =
+    block (codes "e") (
+    packet (i CmpGti (r 32) (0 ∷ []) (pos 0) None
+    ∷ i JumpIfNotNew None (32 ∷ []) (pos 0) (named (codes "t")) ∷ [])
+    ∷ [])
+    ∷
+    block (codes "u") (
+    packet (i Imm (r 0) ([]) (pos 7) None
+    ∷ i Jumpr None (31 ∷ []) (pos 0) None ∷ [])
+    ∷ [])
+    ∷
+    block (codes "t") (
+    packet (i Jumpr None (31 ∷ []) (pos 0) None ∷ [])
+    ∷ [])
+    ∷ []
+
+branch_by_not_new : told (run_of 0 branch_by_not_new_blocks branch_by_new_start 5) ≡ (Returned 7 100, branch_by_new_memory, [], 2)
+branch_by_not_new = refl

@@ -1,9 +1,9 @@
 -- The rules that code keeps, over its parts: the size of its frame in bytes, and its blocks.
-use Rattle.std.specs.Prelude.{ℕ, zero, suc, ℤ, pos, negsuc, ◌≡◌, ◌≢◌, ◌+◌, ◌<◌, ◌≤◌, ◌%◌, Bool, true, false, List, [], ◌∷◌, ◌++◌, Option}
-use Rattle.std.specs.Prelude.{Some, None, map, length, sum_by, All, AllPairs, Contains, slice_get, IsSomeAnd}
+use Rattle.std.specs.Prelude.{ℕ, zero, suc, ℤ, pos, negsuc, ◌≡◌, ◌≢◌, ◌==◌, ◌&&◌, ◌+◌, ◌<◌, ◌≤◌, ◌%◌, Bool, true, false, List, [], ◌∷◌, ◌++◌, Option}
+use Rattle.std.specs.Prelude.{Some, None, map, length, sum_by, All, AllPairs, Contains, slice_get, slice_index, IsSomeAnd}
 use Rattle.std.specs.List.{flat_map, list_any, range_with_len}
 use Rattle.std.specs.Bool.{OnTrue}
-use Rattle.std.specs.Option.{option_map, option_to_list}
+use Rattle.std.specs.Option.{option_map, option_map_or, option_to_list}
 use Rattle.un_base.specs.Names.{is_name}
 use Rattle.un_isa.specs.declared.op.Op.{Op}
 use Rattle.un_isa.specs.declared.op.Op.TheVariants.{Load, Store, Call, Enter, Leave}
@@ -13,7 +13,7 @@ use Rattle.un_isa.specs.declared.reg.TheConstants.{STACK, LINK, GENERALS, PREDIC
 use Rattle.un_isa.specs.declared.reg.Reg.{Reg}
 use Rattle.un_isa.specs.declared.instr.Instr.{Instr}
 use Rattle.un_isa.specs.declared.table.Needs.{Needs}
-use Rattle.un_isa.specs.Does.{is_jump, is_transfer, is_leaving, is_nop}
+use Rattle.un_isa.specs.Does.{is_jump, is_new, is_compare, is_transfer, is_leaving, is_nop}
 use Rattle.un_isa.specs.Facts.{does_of, class_of, operand_spaces, result_space}
 use Rattle.un_isa.specs.Hexagon.{needs_by}
 use Rattle.un_isa.specs.Operands.{HasLiteral}
@@ -95,6 +95,14 @@ written i = written_by i.op i.dst
 abbrev pub needs_of : Instr → Needs
 needs_of i = needs_by (class_of i.op)
 
+-- a compare that writes the register with a number
+abbrev pub gives_predicate : ℕ → Instr → Bool
+gives_predicate n j = option_map_or (λ (r : Reg). r.0 == n) j.dst false && is_compare j.op
+
+-- a jump on a fresh predicate has a compare beside it that writes the predicate
+abbrev pub HasItsCompare : List Instr → Instr → Type 0
+HasItsCompare is i = OnTrue (is_new i.op) (list_any (gives_predicate (slice_index (map number i.srcs) 0)) is ≡ true)
+
 pub record IsGoodPacket (frame : ℕ) (p : Packet) : Type 0 where
   pub some : 0 < length p.instrs
   pub instrs : All (IsGoodInstr frame) p.instrs
@@ -103,6 +111,7 @@ pub record IsGoodPacket (frame : ℕ) (p : Packet) : Type 0 where
   pub idle : OnTrue (list_any (λ (i : Instr). is_nop i.op) p.instrs) (length p.instrs ≡ 1)
   -- no two instructions write one register
   pub one_writer : AllPairs (λ (a b : ℕ). a ≢ b) (flat_map written p.instrs)
+  pub fresh : All (HasItsCompare p.instrs) p.instrs
 
 -- ---- blocks
 

@@ -7,11 +7,11 @@ use Rattle.un_isa.specs.Memories.{word_at, set_word, set_words}
 use Rattle.un_isa.specs.Words.{eval, address_of}
 use Rattle.un_isa.specs.Tables.{latency_of, in_mask}
 use Rattle.un_isa.specs.declared.op.Op.{Op}
-use Rattle.un_isa.specs.declared.op.Op.TheVariants.{Load, Store, Call, Spill, Reload, Enter, Leave}
+use Rattle.un_isa.specs.declared.op.Op.TheVariants.{Load, Store, Call, Spill, Reload, Enter, Leave, JumpIfNew, JumpIfNotNew}
 use Rattle.un_isa.specs.declared.does.Does.{Does}
 use Rattle.un_isa.specs.declared.does.Does.TheVariants.{Jumps}
 use Rattle.un_isa.specs.declared.does.When.{When}
-use Rattle.un_isa.specs.declared.does.When.TheVariants.{Always, IfTrue, IfFalse}
+use Rattle.un_isa.specs.declared.does.When.TheVariants.{Always, IfTrue, IfFalse, IfNewTrue, IfNewFalse}
 use Rattle.un_isa.specs.Does.{is_call, is_return}
 use Rattle.un_isa.specs.Facts.{does_of}
 use Rattle.un_isa.specs.declared.reg.Reg.{Reg}
@@ -89,12 +89,15 @@ writes_by _ s i = map (λ (r : Reg). (r.0, value_of s i)) (option_to_list i.dst)
 abbrev pub writes_of : PacketState → Instr → List (ℕ × ℕ)
 writes_of s i = writes_by i.op s i
 
--- the registers that an instruction reads: an access to the frame reads the stack pointer too
+-- the registers that an instruction waits for: an access to the frame reads the stack pointer too, and a jump that tests what its
+-- own packet writes waits for none
 abbrev pub reads_by : Op → Instr → List ℕ
 reads_by Spill i = STACK ∷ map (λ (r : Reg). r.0) i.srcs
 reads_by Reload i = STACK ∷ map (λ (r : Reg). r.0) i.srcs
 reads_by Enter i = STACK ∷ []
 reads_by Leave i = STACK ∷ []
+reads_by JumpIfNew i = []
+reads_by JumpIfNotNew i = []
 reads_by _ i = map (λ (r : Reg). r.0) i.srcs
 
 abbrev pub reads_of : Instr → List ℕ
@@ -180,30 +183,36 @@ answered t call reply rest s = record {
 abbrev pub record_of : PacketState → Instr → CallRecord
 record_of s i = record { name = unwrap_or i.label []; args = map (reg_in s) i.srcs; memory = s.memory }
 
--- whether a jump is taken, by the value of its predicate
-abbrev pub is_taken : When → ℕ → Bool
-is_taken Always v = true
-is_taken IfTrue v = not (nat_eq v 0)
-is_taken IfFalse v = nat_eq v 0
+-- an operand in registers
+abbrev pub operand_of : List ℕ → Instr → ℕ → ℕ
+operand_of regs i k = slice_index (map (λ (r : Reg). slice_index regs r.0) i.srcs) k
 
-abbrev pub goes_by : Does → ℕ → Bool
-goes_by (Jumps when) v = is_taken when v
-goes_by _ v = false
+-- whether a jump is taken, by the values of its predicate before its packet and behind the packet's writes
+abbrev pub is_taken : When → ℕ → ℕ → Bool
+is_taken Always old new = true
+is_taken IfTrue old new = not (nat_eq old 0)
+is_taken IfFalse old new = nat_eq old 0
+is_taken IfNewTrue old new = not (nat_eq new 0)
+is_taken IfNewFalse old new = nat_eq new 0
 
--- whether an instruction jumps
-abbrev pub jumps_by : Op → PacketState → Instr → Bool
-jumps_by op s i = goes_by (does_of op) (operand_in s i 0)
+abbrev pub goes_by : Does → ℕ → ℕ → Bool
+goes_by (Jumps when) old new = is_taken when old new
+goes_by _ old new = false
 
-abbrev pub jumps : PacketState → Instr → Bool
-jumps s i = jumps_by i.op s i
+-- whether an instruction jumps, by the state before its packet and the registers behind the packet's writes
+abbrev pub jumps_by : Op → PacketState → List ℕ → Instr → Bool
+jumps_by op s new i = goes_by (does_of op) (operand_in s i 0) (operand_of new i 0)
+
+abbrev pub jumps : PacketState → List ℕ → Instr → Bool
+jumps s new i = jumps_by i.op s new i
 
 abbrev pub goes_on : Option Instr → PacketState → PacketStep
 goes_on None s = Went s
 goes_on (Some i) s = Jumped (unwrap_or i.label []) s
 
--- where a packet that left the state t leads
+-- where a packet that left the state t leads: its jumps see its writes, and not yet a call's reply
 abbrev pub leads : Option Instr → PacketState → List Instr → PacketState → PacketStep
-leads None s is t = goes_on (find (jumps s) is) t
+leads None s is t = goes_on (find (jumps s (regs_after s is s.regs)) is) t
 leads (Some i) s is t = Stopped (Returned (slice_index t.regs 0) (operand_in s i 0)) t
 
 abbrev pub with_call : Table → Option Instr → List Reply → PacketState → List Instr → PacketStep

@@ -33,14 +33,15 @@ pub struct CodeBlock {
 
 /// The packets of a function. `frame` is the size of its frame in bytes.
 ///
-/// The type keeps the rules of code: the frame is a multiple of 8 of at most 256 bytes; there is a block, and there are fewer
+/// The type keeps the rules of code: the frame is a multiple of 8 of at most 1,024 bytes; there is a block, and there are fewer
 /// than 2^28 blocks and packets; labels are distinct names, and each jump leads to one of them; what leaves a block stands in its
 /// last packet, and the last block ends by a jump or a return; a packet has an instruction, keeps the counts of a packet, has
-/// a `nop` only alone and one writer of each register; and each instruction has operands, a result, a literal and a label as
-/// its operation asks, where only Enter and Leave write the stack pointer.
+/// a `nop` only alone, one writer of each register, and beside a jump on a fresh predicate a compare that writes the predicate; and
+/// each instruction has operands, a result, a literal and a label as its operation asks, where only Enter and Leave write the
+/// stack pointer.
 #[derive(Drop)]
 pub struct Code {
-    /// The size of its frame in bytes: a multiple of 8 from 0 to 256.
+    /// The size of its frame in bytes: a multiple of 8 from 0 to 1,024.
     pub frame: u32,
     /// Its blocks, in order: what does not jump goes on with the next one.
     pub blocks: Items<CodeBlock>,

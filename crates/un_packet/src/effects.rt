@@ -8,7 +8,7 @@ ghost use Rattle.un_isa.specs.Operands.{IsShift};
 ghost use Rattle.un_isa.specs.Words.{address_of};
 ghost use Rattle.un_packet.specs.Runnable.{IsRunnable, AreRunnable};
 ghost use Rattle.un_packet.specs.Step.{reg_in, operand_in, word_place, frame_place, traps, value_of, writes_of, reads_of, issue_cycle};
-ghost use Rattle.un_packet.specs.Step.{regs_after, ready_after, is_taken, jumps};
+ghost use Rattle.un_packet.specs.Step.{regs_after, ready_after, is_taken, jumps, operand_of};
 ghost use Rattle.un_isa.specs.Does.{is_return, is_call};
 
 use crate::state::{State, at, put, put_ready, ready_at};
@@ -31,14 +31,16 @@ fn latest(ready: &[u64; REGISTERS as usize], regs: &[Reg], cycle: u64) -> u64
     latest
 }
 
-/// Whether a jump is taken, by the value of its predicate.
-fn is_taken(when: When, predicate: u32) -> bool
-    ensures { result ≡ is_taken when predicate }
+/// Whether a jump is taken, by the values of its predicate before its packet and behind the packet's writes.
+fn is_taken(when: When, old: u32, new: u32) -> bool
+    ensures { result ≡ is_taken when old new }
 {
     match when {
         When::Always => true,
-        When::IfTrue => predicate != 0,
-        When::IfFalse => predicate == 0,
+        When::IfTrue => old != 0,
+        When::IfFalse => old == 0,
+        When::IfNewTrue => new != 0,
+        When::IfNewFalse => new == 0,
     }
 }
 
@@ -58,6 +60,18 @@ pub(crate) fn word_place(start: u32, words: usize, address: u32) -> Option<usize
     }
     let place = ((address - start) / 4) as usize;
     if place < words { Some(place) } else { None }
+}
+
+/// The value of an operand in these registers, 0 where there is none.
+pub(crate) fn operand_of(regs: &[u32; REGISTERS as usize], i: &Instr, k: usize) -> u32
+    ensures { result ≡ operand_of regs.now i.now k }
+{
+    let srcs = i.srcs.as_slice();
+    if k < srcs.len() {
+        at(regs, srcs[k].0)
+    } else {
+        0
+    }
 }
 
 /// The first call of a packet.
@@ -177,11 +191,12 @@ impl State {
         regs
     }
 
-    /// The cycle from which all that an instruction reads can be read, `cycle` at least.
+    /// The cycle from which all that an instruction waits for can be read, `cycle` at least.
     fn readable_from(&self, i: &Instr, cycle: u64) -> u64
         ensures { result ≡ fold max cycle (map (slice_index self.now.ready) (reads_of i.now)) }
     {
         match i.op {
+            Op::JumpIfNew | Op::JumpIfNotNew => cycle,
             Op::Enter | Op::Leave => cycle.max(ready_at(&self.ready, STACK)),
             Op::Spill | Op::Reload => {
                 let stack = cycle.max(ready_at(&self.ready, STACK));
@@ -235,24 +250,28 @@ impl State {
         None
     }
 
-    /// Whether an instruction jumps.
-    fn jumps(&self, i: &Instr) -> bool
-        ensures { result ≡ jumps self.now i.now }
+    /// Whether an instruction jumps, where its packet leaves these registers.
+    fn jumps(&self, new: &[u32; REGISTERS as usize], i: &Instr) -> bool
+        ensures { result ≡ jumps self.now new.now i.now }
     {
         match does_of(i.op) {
-            Does::Jumps(when) => is_taken(when, self.operand(i, 0)),
+            Does::Jumps(when) => is_taken(when, self.operand(i, 0), operand_of(new, i, 0)),
             _ => false,
         }
     }
 
-    /// The label to which a packet jumps, where it does.
-    pub(crate) fn jump_label(&self, packet: &[Instr]) -> Option<Name>
+    /// The label to which a packet jumps, where it does, if it leaves these registers.
+    pub(crate) fn jump_label(
+        &self,
+        new: &[u32; REGISTERS as usize],
+        packet: &[Instr],
+    ) -> Option<Name>
         requires { AreRunnable packet.now }
-        ensures { MatchOption result (find (jumps self.now) packet.now ≡ None)
-            (λ label. option_map (λ i. i.label) (find (jumps self.now) packet.now) ≡ Some (Some label)) }
+        ensures { MatchOption result (find (jumps self.now new.now) packet.now ≡ None)
+            (λ label. option_map (λ i. i.label) (find (jumps self.now new.now) packet.now) ≡ Some (Some label)) }
     {
         for i in packet {
-            if self.jumps(i) {
+            if self.jumps(new, i) {
                 return i.label;
             }
         }

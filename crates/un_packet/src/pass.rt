@@ -6,7 +6,7 @@ ghost use Rattle.un_isa.specs.declared.instr.Instr.{Instr};
 ghost use Rattle.un_isa.specs.declared.start.Reply.{Reply};
 ghost use Rattle.un_packet.specs.Passes.{IsPassed, led, HasSpare, UsesReplies};
 ghost use Rattle.un_packet.specs.Runnable.{AreRunnable, calls_in};
-ghost use Rattle.un_packet.specs.Step.{PacketState, after, answered, issue_cycle, leads, record_of, with_call, packet_step};
+ghost use Rattle.un_packet.specs.Step.{PacketState, after, answered, issue_cycle, leads, record_of, regs_after, with_call, packet_step};
 ghost use Rattle.un_isa.specs.Does.{is_return};
 
 use crate::effects::call_in;
@@ -15,6 +15,7 @@ use crate::writes::{spill_all, store_all, take_reply, wait_for_call};
 use un_base::name::Name;
 use un_isa::instr::Instr;
 use un_isa::outcome::{CallRecord, End};
+use un_isa::reg::REGISTERS;
 use un_isa::table::Table;
 
 /// What a packet came to: the next packet, a label, or the end of the run.
@@ -25,7 +26,7 @@ pub enum Passed {
     Stopped(End),
 }
 
-/// Where a packet leads, by the state before it: to the next packet, to a label, or back to an address.
+/// Where a packet leads, by the state before it and its writes: to the next packet, to a label, or back to an address.
 #[derive(Clone, Copy)]
 pub enum Transfer {
     Next,
@@ -34,14 +35,15 @@ pub enum Transfer {
 }
 
 impl State {
-    /// Where a packet leads.
-    fn transfer(&self, packet: &[Instr]) -> Transfer
-        requires { AreRunnable packet.now }
+    /// Where a packet leads that leaves these registers.
+    fn transfer(&self, new: &[u32; REGISTERS as usize], packet: &[Instr]) -> Transfer
+        requires runnable { AreRunnable packet.now }
+        requires written { new.now ≡ regs_after self.now packet.now self.now.regs }
         ensures { (t : PacketState) → leads (find (λ i. is_return i.op) packet.now) self.now packet.now t ≡ led result t }
     {
         match self.return_target(packet) {
             Some(target) => Transfer::Back(target),
-            None => match self.jump_label(packet) {
+            None => match self.jump_label(new, packet) {
                 Some(label) => Transfer::To(label),
                 None => Transfer::Next,
             },
@@ -62,9 +64,10 @@ impl State {
         }
     }
 
-    /// All writes of a packet, which come together.
-    fn apply(&mut self, t: &Table, packet: &[Instr])
+    /// All writes of a packet, which come together; those of registers leave `regs`.
+    fn apply(&mut self, t: &Table, packet: &[Instr], regs: [u32; REGISTERS as usize])
         requires runnable { AreRunnable packet.now }
+        requires written { regs ≡ regs_after self.old packet.now self.old.regs }
         requires fit { IsFit t.now }
         requires counter { self.old.cycle < 2 ^ 63 }
         ensures after { self.new ≡ after t.now (issue_cycle self.old packet.now) self.old packet.now }
@@ -72,7 +75,6 @@ impl State {
         ensures words { length self.new.memory ≡ length self.old.memory }
     {
         let cycle = self.issue_cycle(packet);
-        let regs = self.regs_after(packet);
         let ready = self.ready_after(t, cycle, packet);
         store_all(&mut self.memory, &self.regs, packet);
         spill_all(&mut self.frame, self.frame_start, &self.regs, packet);
@@ -117,8 +119,9 @@ impl State {
         ensures words { length self.new.memory ≡ length self.old.memory }
         ensures replies { self.new.replies ≡ self.old.replies }
     {
-        let leads = self.transfer(packet);
-        self.apply(t, packet);
+        let regs = self.regs_after(packet);
+        let leads = self.transfer(&regs, packet);
+        self.apply(t, packet, regs);
         self.arrive(leads)
     }
 
@@ -136,8 +139,9 @@ impl State {
         if self.answered >= self.replies.len() {
             return Passed::Stopped(End::Waiting(call));
         }
-        let transfer = self.transfer(packet);
-        self.apply(t, packet);
+        let regs = self.regs_after(packet);
+        let transfer = self.transfer(&regs, packet);
+        self.apply(t, packet, regs);
         self.answer(t, call);
         self.arrive(transfer)
     }

@@ -7,7 +7,7 @@ ghost use Rattle.un_packet.specs.Runnable.{IsSpare};
 ghost use Rattle.un_packet.specs.Step.{PacketState, memory_by, memory_after, frame_by, frame_after, each_from, replied, call_ready};
 ghost use Rattle.un_packet.specs.Step.{record_of};
 
-use crate::effects::{address, word_place};
+use crate::effects::{address, operand_of, word_place};
 use crate::state::{Spare, State, at};
 use un_isa::instr::Instr;
 use un_isa::memory::Memory;
@@ -18,18 +18,6 @@ use un_isa::reg_set::RegSet;
 use un_isa::start::Reply;
 use un_isa::table::{Table, latency};
 use un_lists::items::Items;
-
-/// The value of an operand in these registers, 0 where there is none.
-fn operand_of(regs: &[u32; REGISTERS as usize], i: &Instr, k: usize) -> u32
-    ensures { result ≡ slice_index (map (λ r. slice_index regs.now r.0) i.now.srcs) k }
-{
-    let srcs = i.srcs.as_slice();
-    if k < srcs.len() {
-        at(regs, srcs[k].0)
-    } else {
-        0
-    }
-}
 
 /// What an instruction stores, by the registers before its packet.
 fn store(memory: &mut Memory, regs: &[u32; REGISTERS as usize], i: &Instr)

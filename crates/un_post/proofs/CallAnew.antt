@@ -27,10 +27,10 @@ use Rattle.un_model.specs.declared.model.Options.{Options}
 use Rattle.un_model.specs.declared.schedule.Issue.{Issue}
 use Rattle.un_model.specs.declared.schedule.LiveRange.{LiveRange}
 use Rattle.un_ir.specs.Kinds.{is_mandatory, is_delimiter, is_call_kind}
-use Rattle.un_model.proofs.Gaps.{gap_some}
+use Rattle.un_model.proofs.Gaps.{gap_least}
 use Rattle.un_model.specs.Instructions.{instruction_of, space_read, is_predicate_space}
 use Rattle.un_model.specs.Schedules.{schedule_of, issues_of, value_by}
-use Rattle.un_model.specs.Solutions.{IsSchedule, latency_gap, InDomain, InSpace, HasHome, SparesRange, IsSpared}
+use Rattle.un_model.specs.Solutions.{IsSchedule, latency_gap, least_wait, InDomain, InSpace, HasHome, SparesRange, IsSpared}
 use Rattle.un_model.specs.Variables.{model_of, register_domain, source_domain, carried}
 use Rattle.un_model.proofs.Lists.{Member, each_member}
 use Rattle.un_model.proofs.OpDomains.{in_entry, register_sits}
@@ -195,7 +195,7 @@ module _ (e : Ext) (o : Options) (x : List ℕ) (given : Given e o x)
     pub active : (spot_range e o x spot).active ≡ true
     pub home : HasHome operand.home (spot_range e o x spot)
     pub late : (issue_at x c).cycle + 1 ≤ (issue_at x spot.definer).cycle
-    pub early : (issue_at x spot.definer).cycle + 1 ≤ (issue_at x q).cycle
+    pub early : (issue_at x spot.definer).cycle + least_wait e.table (instruction_of q.op.kind 0) ≤ (issue_at x q).cycle
 
   module _ (r : Region) (mr : Member r (blocks e o x)) (c q : Placed) (mc : Member c (region_placed r)) (mq : Member q (region_placed r))
       (call : is_call_kind c.op.kind ≡ true) (behind : (issue_at x c).cycle + 1 ≤ (issue_at x q).cycle)
@@ -290,12 +290,15 @@ module _ (e : Ext) (o : Options) (x : List ℕ) (given : Given e o x)
           let last : (issue_at x q).cycle ≤ h.last + 1 = subst (λ (v : LiveRange). (issue_at x q).cycle ≤ v.last + 1) range rd.last in
           elim (cases_lt (issue_at x c).cycle h.from) [ inl lt ↦ omega arith | inr le ↦ absurd (apart (le, omega (arith, last, behind))) ]
 
-      early : (issue_at x s.definer).cycle + 1 ≤ (issue_at x q).cycle
+      early : (issue_at x s.definer).cycle + least_wait e.table (instruction_of q.op.kind 0) ≤ (issue_at x q).cycle
       early =
           let ready : h.from + latency_gap e.table h.instr (issue_at x q).instr ≤ (issue_at x q).cycle =
           subst (λ (v : LiveRange). v.from + latency_gap e.table v.instr (issue_at x q).instr ≤ (issue_at x q).cycle) range rd.ready in
-          let one = gap_some e.table given.fit h.instr (issue_at x q).instr in
-          omega (arith, ready, one)
+          let least = gap_least e.table given.fit h.instr (issue_at x q).instr in
+          let v = vars_of q in
+          let own : least_wait e.table (issue_at x q).instr ≡ least_wait e.table (instruction_of q.op.kind 0) =
+          ap (least_wait e.table) (own_instruction q.op.kind (value_by x v.instr) mandatory) in
+          omega (arith, ready, least, own)
 
       found : Rewritten c q operand
       found = record { spot = s; member = rd.member; block = rd.block; active = active; home = home; late = late; early = early }

@@ -15,7 +15,8 @@ use Rattle.un_ir.specs.Kinds.{is_mandatory, is_call_kind}
 use Rattle.un_model.specs.Options.{AreOptions}
 use Rattle.un_model.specs.Pairs.{any_from, places_from, joined}
 use Rattle.un_model.specs.Schedules.{schedule_of}
-use Rattle.un_model.specs.Solutions.{IsSchedule, IsSolution, latency_gap}
+use Rattle.un_model.specs.Instructions.{instruction_of}
+use Rattle.un_model.specs.Solutions.{IsSchedule, IsSolution, latency_gap, least_wait}
 use Rattle.un_model.specs.Variables.{IsModel, model_of, arcs_of}
 use Rattle.un_model.proofs.Lists.{Each, Member, each_of, each_join, member_map_of, member_of_filter, member_at}
 use Rattle.un_model.proofs.Placed.{Placed, Region, region_placed, issue_at}
@@ -61,9 +62,12 @@ module _ (e : Ext) (o : Options) (x : List ℕ) (given : Given e o x)
   module _ (r : Region) (mr : Member r (blocks e o x)) (c q : Placed) (mc : Member c (region_placed r)) (mq : Member q (region_placed r))
       (call : is_call_kind c.op.kind ≡ true) (behind : (issue_at x c).cycle + 1 ≤ (issue_at x q).cycle)
       (mandatory : is_mandatory q.op.kind ≡ true) where
-    -- so it is two cycles after the call
-    two_after : waits_anew e.table (place_of c) (place_of q) ≡ true → (issue_at x c).cycle + 2 ≤ (issue_at x q).cycle
-    two_after h =
+    -- how long it is after the call: what writes its operand lies between, or stands beside a jump that tests it fresh
+    abbrev least : ℕ
+    least = 1 + least_wait e.table (instruction_of q.op.kind 0)
+
+    least_after : waits_anew e.table (place_of c) (place_of q) ≡ true → (issue_at x c).cycle + least ≤ (issue_at x q).cycle
+    least_after h =
         let k = (and_iff (is_mandatory q.op.kind) (any_from (reads_anew e.table (place_of c) q.op.kind) 0 q.op.operands)).1 h in
         let f = any_place (reads_anew e.table (place_of c) q.op.kind) 0 q.op.operands k.1 in
         let z : 0 + f.0 ≡ f.0 = omega arith in
@@ -78,12 +82,12 @@ module _ (e : Ext) (o : Options) (x : List ℕ) (given : Given e o x)
     gap_after h = by (is_call_kind q.op.kind) (nat_lt 4 (anew_count e.table (place_of c) (place_of q))) refl refl
       where
         by : (t b : Bool) → is_call_kind q.op.kind ≡ t → nat_lt 4 (anew_count e.table (place_of c) (place_of q)) ≡ b
-            → (issue_at x c).cycle + (if t && b then 3 else 2) ≤ (issue_at x q).cycle
+            → (issue_at x c).cycle + (if t && b then 3 else least) ≤ (issue_at x q).cycle
         by true true later many =
             three_after e o x given schedule r mr c q mc mq call behind later mandatory
             (let lt : 4 < anew_count e.table (place_of c) (place_of q) = grind (arith, nat_tests, many) in omega (arith, lt))
-        by true false later many = two_after h
-        by false b later many = two_after h
+        by true false later many = least_after h
+        by false b later many = least_after h
 
   -- ---- blocks
 

@@ -22,6 +22,7 @@ use Rattle.un_model.specs.declared.model.Options.{Options}
 use Rattle.un_ir.specs.Kinds.{is_mandatory, is_delimiter, is_call_kind}
 use Rattle.un_model.specs.Instructions.{instruction_of}
 use Rattle.un_model.specs.Registers.{reg_at}
+use Rattle.un_model.proofs.Gaps.{call_waits}
 use Rattle.un_model.specs.Schedules.{schedule_of, issues_of, value_by, cycle_by}
 use Rattle.un_model.specs.Solutions.{IsSchedule, latency_gap, share_of}
 use Rattle.un_model.specs.Variables.{model_of, count_if}
@@ -259,7 +260,8 @@ module _ (e : Ext) (o : Options) (x : List ℕ) (given : Given e o x) where
         d = s.definer
 
         cycle : (issue_at x d).cycle ≡ (issue_at x c).cycle + 1
-        cycle = let late = w.late in let early = w.early in omega (arith, late, early, close)
+        cycle = let late = w.late in let early = w.early in let waits = call_waits e.table q.op.kind 0 later in
+            omega (arith, late, early, waits, close)
 
         here : Member d (region_placed r)
         here = stands_in e o x r d mr (definer_is e o x given s w.member).0 (w.block ∙ of_region r q mq)

@@ -32,7 +32,7 @@ use Rattle.un_isa.specs.declared.packet_counts.Resource.TheVariants.{Control}
 use Rattle.un_model.specs.ArcLaws.{arc_told}
 use Rattle.un_model.specs.Arcs.{reads_from, own_instr, NeedsGap, block_arcs, blocks_arcs}
 use Rattle.un_model.specs.Arcs.NeedsGap.{ByData, ByMemory}
-use Rattle.un_model.proofs.Gaps.{gap_some}
+use Rattle.un_model.proofs.Gaps.{gap_whole, no_compare, latency_some}
 use Rattle.un_model.specs.Instructions.{instruction_of, needs_by, transfer_of}
 use Rattle.un_model.specs.Schedules.{schedule_of, issues_of, value_by, cycle_by}
 use Rattle.un_model.specs.Solutions.{share_of, IsSchedule, IsPlaced, IsPlacedAs, IsLast, latency_gap, after_write, memory_distance}
@@ -132,7 +132,10 @@ some_gap a b h = cc h
 call_gap : (t : Table) → IsFit t → (reads : Bool) (from to : ExtOp) (gap : ℕ) → own_instr from ≡ Some Call → NeedsGap t reads from to gap
     → 1 ≤ gap
 call_gap t fit true from to gap call (ByData h) =
-    let lo = gap_some t fit (own_instr from) (own_instr to) in
+    let to_instr = own_instr to in
+    let whole = gap_whole t (Some Call) to_instr (no_compare t (Some Call) to_instr refl) in
+    let lo = latency_some t fit (Some Call) in
+    let same = ap (λ (i : Option Op). latency_gap t i to_instr) call in
     let e = some_gap (latency_gap t (own_instr from) (own_instr to)) gap h in
     omega arith
 call_gap t fit false from to gap call (ByData h) = absurd (cc h)

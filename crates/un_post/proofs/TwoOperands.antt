@@ -11,7 +11,7 @@ use Rattle.un_isa.specs.Fit.{IsFit}
 use Rattle.un_isa.specs.declared.op.Op.{Op}
 use Rattle.un_isa.specs.declared.table.Table.{Table}
 use Rattle.un_ir.specs.Linear.{first_of}
-use Rattle.un_ir.specs.Extended.{temp, carried}
+use Rattle.un_ir.specs.Extended.{temp, carried, IsGoodKind, IsSourceOp}
 use Rattle.un_ir.specs.declared.function.SrcOp.{SrcOp}
 use Rattle.un_ir.specs.declared.extended.ExtKind.{ExtKind}
 use Rattle.un_ir.specs.declared.extended.ExtKind.TheVariants.{In, Out, Body, End, Copy, Enter, Leave}
@@ -20,7 +20,7 @@ use Rattle.un_ir.specs.declared.extended.Ext.{Ext}
 use Rattle.un_domains.specs.Sets.{has}
 use Rattle.un_model.specs.declared.model.Options.{Options}
 use Rattle.un_model.specs.declared.schedule.LiveRange.{LiveRange}
-use Rattle.un_model.proofs.Gaps.{gap_some}
+use Rattle.un_model.proofs.Gaps.{gap_source, latency_some}
 use Rattle.un_model.specs.Instructions.{space_read, instruction_of}
 use Rattle.un_model.specs.Pairs.{places_from, joined}
 use Rattle.un_ir.specs.Kinds.{is_delimiter, has_choices}
@@ -38,7 +38,7 @@ use Rattle.un_kinds.specs.Constraints.{Constraint, meets, AllMet, Operands}
 use Rattle.un_sites.specs.Places.{Definer, definers_of, definers_at}
 use Rattle.un_sites.specs.Postings.{registers_in, registers_of}
 use Rattle.un_sites.specs.Rooms.{each_two, operand_side, two_by, one_value, two_at, twos_in, twos_of}
-use Rattle.un_post.proofs.Facts.{Given, numbered, all_member, in_domains, definer_is, choice_var, reading, read_temp, read_definer}
+use Rattle.un_post.proofs.Facts.{Given, numbered, good_op, all_member, in_domains, definer_is, choice_var, reading, read_temp, read_definer}
 use Rattle.un_post.proofs.Meeting.{Met, passes_get}
 use Rattle.un_post.proofs.Placing.{place_of, definer_at}
 use Rattle.un_post.proofs.RegisterBounds.{register_below}
@@ -104,9 +104,13 @@ module _ (e : Ext) (o : Options) (x : List ℕ) (given : Given e o x)
     pub from : (spot_range e o x spot).from + 1 ≤ (issue_at x q).cycle
     pub last : (issue_at x q).cycle ≤ (spot_range e o x spot).last + 1
 
+  -- an operation that waits for what it reads, whatever gives that
+  abbrev WaitsForAll : Placed → Type 0
+  WaitsForAll q = (d : Option Op) → 1 ≤ latency_gap e.table d (issue_at x q).instr
+
   held : (q : Placed) (j : ℕ) (operand : Operand) → Member q (all e o x) → (issue_at x q).active ≡ true → has_choices q.op.kind ≡ true
-      → slice_get q.op.operands j ≡ Some operand → Held q j operand
-  held q j operand m act c at =
+      → WaitsForAll q → slice_get q.op.operands j ≡ Some operand → Held q j operand
+  held q j operand m act c waits at =
       let rd = reading e o x given q j operand m at in
       let fits = rd.fits in
       let d = read_of x (issue_at x q) (vars_of q) j operand in
@@ -125,7 +129,7 @@ module _ (e : Ext) (o : Options) (x : List ℕ) (given : Given e o x)
       (slice_index x (p.first + register_place p.op + rd.spot.place)) given.fit
       (register_sits e o x (in_entry e o x p) p rd.spot.place rd.spot.temp (in_domains e o x given p def.0) def.1) in
       let space = back (λ s. InSpace (spot_range e o x s).reg (space_read (issue_at x q).instr j)) good.space in
-      let fast = gap_some e.table given.fit (spot_range e o x good.result).instr (issue_at x q).instr in
+      let fast = waits (spot_range e o x good.result).instr in
       let ready = good.ready in
       record {
         spot = rd.spot;
@@ -184,8 +188,9 @@ module _ (e : Ext) (o : Options) (x : List ℕ) (given : Given e o x)
       let instr : (issue_at x q).instr ≡ Some so.op = ap (λ (c : ExtKind). instruction_of c (value_by x v.instr)) kind in
       let act : (issue_at x q).active ≡ true = active kind in
       let c : has_choices q.op.kind ≡ true = ap has_choices kind in
-      let h = held q i a m act c at in
-      let k = held q j b m act c bt in
+      let waits = waits_for_all kind instr in
+      let h = held q i a m act c waits at in
+      let k = held q j b m act c waits bt in
       let f = (spot_range e o x h.spot).reg in
       let g = (spot_range e o x k.spot).reg in
       let sa = operand_side o.slots ds so.op i (var_at (q.first + choice_place q.op + i)) a in
@@ -201,6 +206,17 @@ module _ (e : Ext) (o : Options) (x : List ℕ) (given : Given e o x)
       (slice_index x (q.first + choice_place q.op + i)) _ h.register
       ∙ (and_iff (has sa.allowed f) (side_passes (λ r. not (nat_eq r f)) sb x)).0 (ha, inner)
     where
+      -- operations of the source are no jumps
+      waits_for_all : q.op.kind ≡ Body so → (issue_at x q).instr ≡ Some so.op → WaitsForAll q
+      waits_for_all k is d =
+          let g = good_op e o x given q m in
+          let keeps = g.keeps in
+          let source : IsSourceOp so = subst (λ (c : ExtKind). IsGoodKind c q.op) k keeps.kind in
+          let whole = gap_source e.table d so.op source.op in
+          let some = latency_some e.table given.fit d in
+          let own = ap (latency_gap e.table d) is in
+          omega (arith, whole, some, own)
+
       active : q.op.kind ≡ Body so → (issue_at x q).active ≡ true
       active k = let v = vars_of q in ap (λ (c : ExtKind). is_delimiter c || is_some (instruction_of c (value_by x v.instr))) k
 

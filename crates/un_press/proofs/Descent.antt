@@ -14,11 +14,14 @@ use Rattle.un_ir.specs.Extended.{IsGoodOperand, Want, temp, wants_of, first_read
 use Rattle.un_ir.specs.Linear.{first_of}
 use Rattle.un_model.specs.declared.model.Options.{Options}
 use Rattle.un_model.specs.declared.schedule.LiveRange.{LiveRange}
-use Rattle.un_model.specs.Instructions.{latency_by}
+use Rattle.un_model.specs.Instructions.{instruction_of, latency_by}
+use Rattle.un_model.specs.Schedules.{value_by}
+use Rattle.un_model.specs.Solutions.{latency_gap}
+use Rattle.un_model.proofs.Gaps.{gap_of_copy}
 use Rattle.un_model.proofs.Lists.{Member}
-use Rattle.un_model.proofs.Placed.{Placed, issue_at, Spot}
+use Rattle.un_model.proofs.Placed.{Placed, issue_at, vars_of, Spot}
 use Rattle.un_model.proofs.PlacedSchedules.{all, spots, definer_in, range_at, range_here, spot_range, one_spot}
-use Rattle.un_model.proofs.Readings.{Solved, numbered, fit_kinds, placed_good, Reading, reading, waited_latency}
+use Rattle.un_model.proofs.Readings.{Solved, numbered, fit_kinds, placed_good, Reading, reading}
 use Rattle.un_model.proofs.TempKinds.{carried_at, spot_carried, carried_is}
 
 module _ (e : Ext) (o : Options) (values : List ℕ) (h : Solved e o values) where
@@ -73,9 +76,19 @@ module _ (e : Ext) (o : Options) (values : List ℕ) (h : Solved e o values) whe
             range : range_at e o values d.spot.temp.0 ≡ spot_range e o values d.spot
             range = range_here e o values (numbered e o values h) d.spot d.member
 
-            ready : ready_at d.spot.definer ≤ cycle_at r.user
-            ready = subst (λ (w : LiveRange). w.from + latency_by e.table w.instr ≤ cycle_at r.user) range
-                (waited_latency e o values h r.user r.place r.operand want d)
+            -- what a copy gives is waited for
+            ready_of : (node : NodeCopy) → d.spot.definer.op.kind ≡ Copy node → ready_at d.spot.definer ≤ cycle_at r.user
+            ready_of node k =
+                let n = value_by values (vars_of d.spot.definer).instr in
+                let user = (issue_at values r.user).instr in
+                let late : cycle_at d.spot.definer
+                + latency_gap e.table (issue_at values d.spot.definer).instr (issue_at values r.user).instr ≤ cycle_at r.user =
+                subst (λ (w : LiveRange). w.from + latency_gap e.table w.instr user ≤ cycle_at r.user) range d.ready in
+                let waits : latency_gap e.table (issue_at values d.spot.definer).instr (issue_at values r.user).instr
+                ≡ latency_by e.table (issue_at values d.spot.definer).instr =
+                ap (λ (z : ExtKind). latency_gap e.table (instruction_of z n) user) k ∙ gap_of_copy e.table n user
+                ∙ sym (ap (λ (z : ExtKind). latency_by e.table (instruction_of z n)) k) in
+                omega (arith, late, waits)
 
             active : (issue_at values d.spot.definer).active ≡ true
             active = subst (λ (w : LiveRange). w.active ≡ true) range d.active
@@ -122,10 +135,11 @@ module _ (e : Ext) (o : Options) (values : List ℕ) (h : Solved e o values) whe
                       value = sym first ∙ value;
                       after = late;
                     } in
-                    on (ap is_copy k) q refl (below q d.earlier)
+                    on (ap is_copy k) (ready_of node k) q refl (below q d.earlier)
                   where
-                    on : is_copy d.spot.definer.op.kind ≡ true → (q : Reader v t) → q.user ≡ d.spot.definer → Held v t q → Held v t r
-                    on copy q same w = record {
+                    on : is_copy d.spot.definer.op.kind ≡ true → ready_at d.spot.definer ≤ cycle_at r.user → (q : Reader v t)
+                        → q.user ≡ d.spot.definer → Held v t q → Held v t r
+                    on copy ready q same w = record {
                       reader = w.reader;
                       want = w.want;
                       wants = w.wants;

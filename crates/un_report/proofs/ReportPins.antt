@@ -17,6 +17,11 @@ second_head : (r : Report) → r.version ≡ 2 → r.name ≡ codes "f" → r.op
 unfolding digits
 second_head r version name options nodes = rw (version, name, options, nodes) refl
 
+third_head : (r : Report) → r.version ≡ 3 → r.name ≡ codes "f" → r.options ≡ record { regs = None; slots = 256 } → r.nodes ≡ 1
+    → head_text r ≡ codes "unison 3\nfunction f\nmodel regs all slots 256 nodes 1\n"
+unfolding digits
+third_head r version name options nodes = rw (version, name, options, nodes) refl
+
 one_register : model_text (record { regs = Some 1; slots = 64 }) 2000 ≡ codes "model regs 1 slots 64 nodes 2000\n"
 unfolding digits
 one_register = refl

@@ -33,7 +33,7 @@ use un_isa::reg::{Reg, Space};
 use un_isa::reg_set::is_in_mask;
 use un_isa::table::Table;
 use un_lists::items::Items;
-use un_model::instructions::{instruction, space_read};
+use un_model::instructions::{instruction, least_wait, space_read};
 use un_model::model::Arc;
 use un_sites::sites::{Spot, spot_at};
 
@@ -127,14 +127,15 @@ fn anew_count(t: &Table, call: &Spot<'_>, u: &Spot<'_>) -> Result<usize, NoMemor
 fn anew_gap(t: &Table, call: &Spot<'_>, u: &Spot<'_>) -> Result<u32, NoMemory>
     ensures { IfOk result (λ gap. gap ≡ anew_gap t.now (place_of call.now) (place_of u.now)) }
 {
+    let least = 1 + least_wait(t, instruction(&u.it.kind, 0));
     if !u.it.kind.is_call() {
-        return Ok(2);
+        return Ok(least);
     }
     let count = anew_count(t, call, u)?;
     if count > PACKET as usize {
         Ok(3)
     } else {
-        Ok(2)
+        Ok(least)
     }
 }
 

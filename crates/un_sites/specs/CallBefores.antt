@@ -17,6 +17,7 @@ use Rattle.un_model.specs.declared.model.Model.{Model}
 use Rattle.un_model.specs.declared.model.BlockVars.{BlockVars}
 use Rattle.un_ir.specs.Kinds.{is_mandatory, is_call_kind}
 use Rattle.un_model.specs.Instructions.{instruction_of, space_read, is_predicate_space}
+use Rattle.un_model.specs.Solutions.{least_wait}
 use Rattle.un_model.specs.Pairs.{any_from, places_from, joined, over_blocks}
 use Rattle.un_model.specs.Variables.{count_if}
 use Rattle.un_prop.specs.declared.act.Act.TheVariants.{Always}
@@ -63,10 +64,12 @@ count_from p i (x ∷ xs) = count_if (p i x) + count_from p (i + 1) xs
 abbrev pub anew_count : Table → Place → Place → ℕ
 anew_count t c u = count_from (reads_anew t c u.it.kind) 0 u.it.operands
 
--- What writes such an operand is at least one cycle after the call, and one before the operation. The arguments of a call are in
--- different registers, so where more of them have to be written than a packet has places, another cycle lies between.
+-- What writes such an operand is at least one cycle after the call, and as long before the operation as that waits at least. The
+-- arguments of a call are in different registers, so where more of them have to be written than a packet has places, another cycle lies
+-- between.
 abbrev pub anew_gap : Table → Place → Place → ℕ
-anew_gap t c u = if is_call_kind u.it.kind && nat_lt PACKET (anew_count t c u) then 3 else 2
+anew_gap t c u =
+    if is_call_kind u.it.kind && nat_lt PACKET (anew_count t c u) then 3 else 1 + least_wait t (instruction_of u.it.kind 0)
 
 abbrev pub anew_after : Table → Place → Place → List Constraint
 anew_after t c u = if waits_anew t c u then Before (time_of c) Always (time_of u) Always (anew_gap t c u) ∷ [] else []

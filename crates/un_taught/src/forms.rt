@@ -64,6 +64,7 @@ pub fn form_of(op: Op) -> &'static str {
         Op::Store => "store %a, #n, %v",
         Op::Call => "%d = call F %a, %b",
         Op::Jump | Op::JumpIf | Op::JumpIfNot | Op::Jumpr | Op::Spill | Op::Reload => "",
+        Op::JumpIfNew | Op::JumpIfNotNew => "",
         Op::P2R | Op::R2P | Op::Enter | Op::Leave | Op::Nop => "",
     }
 }

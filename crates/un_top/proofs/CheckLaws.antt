@@ -5,7 +5,7 @@ use Rattle.std.specs.declared.alloc.Global.{Global}
 use Rattle.std.specs.declared.result.Result.{Result}
 use Rattle.std.specs.declared.result.Result.TheVariants.{Ok, Err}
 use Rattle.un_base.specs.declared.memory_error.NoMemory.{NoMemory}
-use Rattle.un_isa.proofs.HexagonTable.{hexagon_fit}
+use Rattle.un_isa.proofs.HexagonTable.{version_fit}
 use Rattle.un_isa.specs.Versions.{table_of}
 use Rattle.un_ir.specs.declared.function.Function.{Function}
 use Rattle.un_model.specs.Options.{AreOptions}
@@ -72,7 +72,7 @@ sound_by f r m h is =
 
 problem_by : (f : Function) (r : Report) (m : Model) → AreOptions r.options → IsModelOf (table_of r.version) f r.options m
     → IsProblemOf f m
-problem_by f r m options is = problem (table_of r.version) f r.options m hexagon_fit options is
+problem_by f r m options is = problem (table_of r.version) f r.options m (version_fit r.version) options is
 
 -- so its code does what the function does, for its cost
 code_by : (f : Function) (r : Report) (told : Result (Unit {0}) NoCause) → AreOptions r.options

@@ -74,6 +74,7 @@ fn slots(op: Op) -> &'static [Slot]
         Op::Call | Op::Jump | Op::Enter | Op::Leave | Op::Nop => &[],
         Op::Imm | Op::Reload => &[Slot::Literal],
         Op::Mov | Op::JumpIf | Op::JumpIfNot | Op::Jumpr | Op::P2R | Op::R2P => &[Slot::Named],
+        Op::JumpIfNew | Op::JumpIfNotNew => &[Slot::Named],
         Op::Addi | Op::Andi | Op::Ori | Op::CmpEqi | Op::CmpGti => NAME_LITERAL,
         Op::Asl | Op::Asr | Op::Lsr | Op::Load | Op::Spill => NAME_LITERAL,
         Op::Add | Op::Sub | Op::And | Op::Or | Op::Xor | Op::Mpyi => TWO_NAMES,

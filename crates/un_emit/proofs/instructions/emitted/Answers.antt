@@ -17,4 +17,4 @@ pub instr-requires-clause-operands : goal.instr-requires-clause-operands
 instr-requires-clause-operands c =
     subst (All IsPlace) (sym c.in_ok-srcs.ensures)
     (each_place (λ (j : ℕ) (operand : Operand). temp_register c.args.m.now c.args.values.now
-    (choice_of c.args.values.now c.args.vars.now j operand)) 0 c.args.op.now.operands (λ j x. c.requires.places _))
+    (choice_of c.args.values.now c.args.vars.now j operand)) 0 c.args.op.now.operands (λ j x. c.requires.frame.places _))

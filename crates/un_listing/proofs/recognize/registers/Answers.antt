@@ -6,7 +6,7 @@ use Rattle.un_listing.proofs.recognize.registers.Goals.{in-Some+in_ok-push, in_d
 
 pub loop-word-preserved : goal.loop-word-preserved
 loop-word-preserved c =
-    elim c.match-reg_in.branch [
+    elim c.match-operand_in.branch [
       | in-Some+in_ok-push w ↦ grind (arith, common_steps, filter_map-append)
       | in_default w ↦ grind (arith, common_steps, filter_map-append)
     ]

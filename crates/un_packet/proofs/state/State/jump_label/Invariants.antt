@@ -6,6 +6,6 @@ use Rattle.un_packet.proofs.state.State.jump_label.Given as goal
 
 abbrev pub invariant-loop-i : goal.invariant-loop-i
 invariant-loop-i l = record {
-  rest : find (jumps l.self) (drop l.i-index l.packet) ≡ find (jumps l.self) l.packet;
+  rest : find (jumps l.self l.new) (drop l.i-index l.packet) ≡ find (jumps l.self l.new) l.packet;
   runnable : AreRunnable (drop l.i-index l.packet);
 }
