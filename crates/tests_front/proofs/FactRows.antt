@@ -27,7 +27,8 @@ two = R ∷ R ∷ []
 operands : map operand_spaces all_ops ≡
     none ∷ one ∷ two ∷ two ∷ two ∷ two ∷ two ∷ one ∷ one ∷ one ∷ (P ∷ R ∷ R ∷ []) ∷ two ∷
     two ∷ two ∷ one ∷ one ∷ two ∷ one ∷ one ∷ one ∷ one ∷ two ∷ none ∷ none ∷
-    (P ∷ []) ∷ (P ∷ []) ∷ one ∷ one ∷ none ∷ (P ∷ []) ∷ one ∷ none ∷ none ∷ none ∷ []
+    (P ∷ []) ∷ (P ∷ []) ∷ one ∷ one ∷ none ∷ (P ∷ []) ∷ one ∷ none ∷ none ∷ none ∷
+    (P ∷ []) ∷ (P ∷ []) ∷ []
 operands = refl
 
 arguments : operand_space Call 5 ∷ operand_space Add 1 ∷ operand_space Add 2 ∷ [] ≡ Some R ∷ Some R ∷ None ∷ []
@@ -42,7 +43,7 @@ truth = Some P
 results : map result_space all_ops ≡
     word ∷ word ∷ word ∷ word ∷ word ∷ word ∷ word ∷ word ∷ word ∷ word ∷ word ∷ truth ∷
     truth ∷ truth ∷ truth ∷ truth ∷ word ∷ word ∷ word ∷ word ∷ word ∷ None ∷ word ∷ None ∷
-    None ∷ None ∷ None ∷ None ∷ word ∷ word ∷ truth ∷ None ∷ None ∷ None ∷ []
+    None ∷ None ∷ None ∷ None ∷ word ∷ word ∷ truth ∷ None ∷ None ∷ None ∷ None ∷ None ∷ []
 results = refl
 
 abbrev s16 : Option Range
@@ -57,7 +58,8 @@ u5 = Some Unsigned5
 literals : map literal_range all_ops ≡
     s16 ∷ None ∷ None ∷ None ∷ None ∷ None ∷ None ∷ s16 ∷ s10 ∷ s10 ∷ None ∷ None ∷
     None ∷ None ∷ s10 ∷ s10 ∷ None ∷ u5 ∷ u5 ∷ u5 ∷ Some Offset ∷ Some Offset ∷ None ∷ None ∷
-    None ∷ None ∷ None ∷ Some FrameOffset ∷ Some FrameOffset ∷ None ∷ None ∷ None ∷ None ∷ None ∷ []
+    None ∷ None ∷ None ∷ Some FrameOffset ∷ Some FrameOffset ∷ None ∷ None ∷ None ∷ None ∷ None ∷
+    None ∷ None ∷ []
 literals = refl
 
 -- ---- addresses and memory
