@@ -34,3 +34,5 @@ mod scripts;
 mod start_texts;
 #[cfg(test)]
 mod starts;
+#[cfg(test)]
+mod tables;

@@ -12,6 +12,7 @@ use crate::listings::put_of_listing;
 use crate::report_texts::put_of_report;
 use crate::run_texts::put_of_run;
 use crate::start_texts::put_of_start;
+use crate::tables::put_of_table;
 use std::alloc::Global;
 use un_base::decimal::read_decimal;
 use un_base::memory_error::NoMemory;
@@ -28,6 +29,7 @@ pub(crate) enum About {
     Starts,
     Runs,
     Reports,
+    Tables,
 }
 
 /// What stands before and behind the first byte of this kind.
@@ -69,6 +71,7 @@ fn put_answer(
         About::Starts => put_of_start(alloc, out, text, question),
         About::Runs => put_of_run(alloc, out, text, question),
         About::Reports => put_of_report(alloc, out, text, question),
+        About::Tables => put_of_table(alloc, out, text),
     }
 }
 

@@ -3,6 +3,8 @@
 #![tactic(auto)]
 
 #[cfg(test)]
+mod by_table;
+#[cfg(test)]
 mod checks;
 #[cfg(test)]
 mod commands;

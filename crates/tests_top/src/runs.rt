@@ -594,6 +594,7 @@ fn put_status(found: &mut Vec<u8>, status: Status) -> Result<(), NoMemory> {
         Status::NoMemory => put_text(found, b"no memory"),
         Status::Usage { word } => put_number_of(found, b"usage ", word),
         Status::BadReport { line } => put_number_of(found, b"bad ", line),
+        Status::BadTable { code } => put_number_of(found, b"bad table ", u32::from(code)),
         Status::TextFault { line, code } => {
             put_number_of(found, b"fault ", line)?;
             put_number_of(found, b" ", u32::from(code))

@@ -1,6 +1,7 @@
 //! The check of a report.
 
 ghost use Rattle.std.specs.Prelude.{◌≡◌, List, All, IfOk, OnOk};
+ghost use Rattle.un_isa.specs.Fit.{IsFit};
 ghost use Rattle.un_isa.specs.Versions.{IsVersion, table_of};
 ghost use Rattle.un_model.specs.Options.{AreOptions};
 ghost use Rattle.un_problem.specs.Problems.{IsProblemOf};
@@ -17,7 +18,7 @@ use crate::tree::{check_lines, check_tree};
 use std::alloc::Global;
 use un_base::memory_error::NoMemory;
 use un_ir::function::Function;
-use un_isa::table::table_of;
+use un_isa::table::{Table, table_of};
 use un_model::model::Model;
 use un_outside::status::NoCause;
 use un_problem::problem::model;
@@ -94,10 +95,33 @@ fn check_view_by(
     }
 }
 
-/// The check of a view of a report on a function: what `check_report` answers for the report. It goes through the lines of the tree once.
+/// The check of a view of a report on a function by a table of the processor, whatever the report's version: what is said of its code and of
+/// its bound is by this table. It goes through the lines of the tree once.
 ///
 /// # Errors
 /// Where memory is short, or there are more nodes, variables or operations than numbers below 2^32.
+pub fn check_table(
+    alloc: Global,
+    f: &Function,
+    v: &ReportView<'_>,
+    t: &Table,
+) -> Result<Result<(), NoCause>, NoMemory>
+    requires fit { IsFit t.now }
+    requires options { AreOptions v.now.options }
+    requires lines { AreLines v.now.count v.now.tree.now }
+    ensures told { (nodes : List Node) → All Fits nodes → v.now.tree.now ≡ tree_text nodes
+        → IfOk result (IsTold t.now f.now v.now.options (claim_with v.now nodes)) }
+    ensures sound { (r : Report) → IsViewOf r v.now → All Fits r.tree.nodes.items
+        → IfOk result (λ told. OnOk told (IsSound t.now f.now r)) }
+{
+    let m = model(alloc, f, t, &v.options)?;
+    check_view_by(alloc, f, &m, v)
+}
+
+/// The check of a view of a report on a function, by the table of the report's version: what `check_report` answers for the report.
+///
+/// # Errors
+/// Those of `check_table`.
 pub fn check_view(
     alloc: Global,
     f: &Function,
@@ -111,6 +135,5 @@ pub fn check_view(
     ensures sound { (r : Report) → IsViewOf r v.now → All Fits r.tree.nodes.items
         → IfOk result (λ told. OnOk told (IsSound (table_of v.now.version) f.now r)) }
 {
-    let m = model(alloc, f, &table_of(v.version), &v.options)?;
-    check_view_by(alloc, f, &m, v)
+    check_table(alloc, f, v, &table_of(v.version))
 }

@@ -1,10 +1,11 @@
 -- What is so of every command: its numbers are in their ranges, its words are of no other, and each in its ranges has words.
-use Rattle.std.proofs.Common.{ℕ, ◌≡◌, ◌≤◌, inl, inr, List, [], ◌∷◌, ◌++◌, length, drop, Option, Some, None, Result, Ok, Err, All, codes, refl, sym, ap, subst, ◌∙◌, arith, lit≤}
+use Rattle.std.proofs.Common.{ℕ, ◌≡◌, ◌≤◌, inl, inr, List, [], ◌∷◌, ◌++◌, length, drop, Bool, true, false, Option, Some, None, Result, Ok, Err, All, codes, refl, sym, ap, subst, ◌∙◌, arith, lit≤}
 use Rattle.std.specs.Fmt.{decimal}
 use Rattle.std.specs.List.{flat_map, slice_get}
 use Rattle.std.specs.Option.{option_to_list, IfSome, unwrap_or}
 use Rattle.std.specs.Result.{IfOk, IfErr}
 use Rattle.std.proofs.lemmas.List.{append-nil, length-append}
+use Rattle.std.proofs.lemmas.List.Concat.{flat_map-append}
 use Rattle.std.proofs.lemmas.List.Elements.{All-nil, All-cons, All-head}
 use Rattle.un_isa.specs.declared.reg.TheConstants.{SLOTS}
 use Rattle.un_model.specs.Options.{IsCountOfRegisters}
@@ -12,7 +13,7 @@ use Rattle.un_commands.specs.declared.command.SearchOptions.{SearchOptions}
 use Rattle.un_commands.specs.declared.command.TheConstants.{DEFAULT_NODES}
 use Rattle.un_commands.specs.declared.command.Command.{Command}
 use Rattle.un_commands.specs.declared.command.Command.TheVariants.{Reads, Makes}
-use Rattle.un_commands.specs.declared.command.ReadingCommand.TheVariants.{Alloc, Run, RunCode, Check, Improve}
+use Rattle.un_commands.specs.declared.command.ReadingCommand.TheVariants.{Alloc, Run, RunCode, Check, Improve, AllocTable, CheckTable, RunCodeTable}
 use Rattle.un_commands.specs.declared.command.MakingCommand.TheVariants.{Generate, GenerateAlloc}
 use Rattle.un_commands.specs.declared.setting.Setting.{Setting}
 use Rattle.un_commands.specs.declared.setting.Setting.TheVariants.{Nodes, Regs, Slots}
@@ -20,11 +21,13 @@ use Rattle.un_commands.specs.declared.setting.Given.{Given}
 use Rattle.un_commands.specs.Alloc.{HasSettings, AreSearchOptions}
 use Rattle.un_commands.specs.Commands.{IsCommand, IsBadWord, IsRanged}
 use Rattle.un_commands.specs.Places.{StandsAt}
-use Rattle.un_commands.specs.Settings.{IsCountOfNodes, IsInRange, words_of, nodes_in, regs_in, slots_in, Say, over_defaults}
+use Rattle.un_commands.specs.Settings.{IsCountOfNodes, IsInRange, Part, part_words, settings_in, AsksTable, nodes_in, regs_in, slots_in, Say, over_defaults}
+use Rattle.un_commands.specs.Settings.Part.{Sets, Flag}
 use Rattle.un_commands.proofs.AllocLaws.{line_of}
 use Rattle.un_commands.proofs.GenerateLaws.{plain, costed}
-use Rattle.un_commands.proofs.Openers.{opens_alloc, opens_run, opens_check, opens_improve, opens_gen, read_at, first_words, IsGen, IsTail, ends, goes}
-use Rattle.un_commands.proofs.SettingLaws.{begin_with, length_words, one_saying, all_values}
+use Rattle.un_commands.proofs.Openers.{alloc_of, opens_alloc, opens_run, plain as plain_run, coded, tabled, opens_check, opens_improve, opens_gen, read_at, first_words, IsGen, IsTail, ends, goes}
+use Rattle.un_commands.proofs.PartLaws.{begin_with, one_asking}
+use Rattle.un_commands.proofs.SettingLaws.{one_saying, all_values}
 use Rattle.un_commands.proofs.Texts.{some_or_none, one_number}
 use Rattle.un_commands.proofs.WordLaws.{bad_word, command_is_good, bad_word_unique}
 
@@ -75,32 +78,50 @@ settings_ranged ss given ranged said = record {
 
 -- the numbers of a command are in their ranges
 pub is_ranged : (words : List (List ℕ)) (command : Command) → IsCommand words command → IsRanged command
-is_ranged words (Reads (Alloc options)) h = subst AreSearchOptions (sym h.chosen) (settings_ranged h.settings h.given h.ranged h.said)
+is_ranged words (Reads (Alloc options)) h =
+    subst AreSearchOptions (sym h.chosen) (settings_ranged (settings_in h.parts) h.given h.ranged h.said)
 is_ranged words (Reads Run) h = tt
 is_ranged words (Reads RunCode) h = tt
 is_ranged words (Reads Check) h = tt
-is_ranged words (Reads (Improve options)) h = subst AreSearchOptions (sym h.chosen) (settings_ranged h.settings h.given h.ranged h.said)
+is_ranged words (Reads (Improve options)) h =
+    subst AreSearchOptions (sym h.chosen) (settings_ranged (settings_in h.parts) h.given h.ranged h.said)
+is_ranged words (Reads (AllocTable options)) h =
+    subst AreSearchOptions (sym h.chosen) (settings_ranged (settings_in h.parts) h.given h.ranged h.said)
+is_ranged words (Reads CheckTable) h = tt
+is_ranged words (Reads RunCodeTable) h = tt
 is_ranged words (Makes (Generate seed size)) h = (h.seed_fits, h.size_in)
 is_ranged words (Makes (GenerateAlloc seed size nodes)) h = (h.seed_fits, h.size_in, h.nodes_in)
 
-none_more : (more : List Setting) → length more ≡ 0 → more ≡ []
+none_more : (more : List Part) → length (flat_map part_words more) ≡ 0 → more ≡ []
 none_more [] h = refl
-none_more (s ∷ more) h = absurd (omega arith)
+none_more (Sets t ∷ more) h = absurd (omega arith)
+none_more (Flag ∷ more) h = absurd (omega arith)
 
--- words are those of one list of settings
-same_settings : (ss ts : List Setting) → All IsInRange ss → All IsInRange ts → flat_map words_of ss ≡ flat_map words_of ts → ts ≡ ss
-same_settings ss ts a b e =
-    let before = begin_with ss ts a b (λ j h. ap (λ (ws : List (List ℕ)). slice_get ws j) e) in
-    let long : length ts ≡ length (ss ++ before.0) = ap length before.1 in
-    let same : length (flat_map words_of ss) ≡ length (flat_map words_of ts) = ap length e in
-    let none : length before.0 ≡ 0 = omega (arith, length-append ss before.0, length_words ss, length_words ts) in
-    before.1 ∙ (ap (λ (us : List Setting). ss ++ us) (none_more before.0 none) ∙ append-nil ss)
+-- words are those of one list of parts
+same_parts : (ps qs : List Part) → All IsInRange (settings_in ps) → All IsInRange (settings_in qs)
+    → flat_map part_words ps ≡ flat_map part_words qs → qs ≡ ps
+same_parts ps qs a b e =
+    let before = begin_with ps qs a b (λ j h. ap (λ (ws : List (List ℕ)). slice_get ws j) e) in
+    let same : length (flat_map part_words ps) ≡ length (flat_map part_words qs) = ap length e in
+    let parted : length (flat_map part_words qs) ≡ length (flat_map part_words ps ++ flat_map part_words before.0) =
+    ap length (ap (flat_map part_words) before.1 ∙ flat_map-append part_words ps before.0) in
+    let none : length (flat_map part_words before.0) ≡ 0 =
+    omega (arith, same, parted, length-append (flat_map part_words ps) (flat_map part_words before.0)) in
+    before.1 ∙ (ap (λ (us : List Part). ps ++ us) (none_more before.0 none) ∙ append-nil ps)
 
-one_search : (verb : List ℕ) (words : List (List ℕ)) (o p : SearchOptions) → HasSettings verb words o → HasSettings verb words p → o ≡ p
-one_search verb words o p a b =
-    let texts : flat_map words_of a.settings ≡ flat_map words_of b.settings = ap (λ (ws : List (List ℕ)). drop 1 ws) (sym a.spelled ∙ b.spelled) in
-    let same : b.settings ≡ a.settings = same_settings a.settings b.settings a.ranged b.ranged texts in
-    a.chosen ∙ (ap over_defaults (one_saying a.settings a.given b.given a.said (subst (λ (ss : List Setting). Say ss b.given) same b.said)) ∙ sym b.chosen)
+one_search : (verb : List ℕ) (words : List (List ℕ)) (t u : Bool) (o p : SearchOptions) → HasSettings verb words t o
+    → HasSettings verb words u p
+    → (t ≡ u) × (o ≡ p)
+one_search verb words t u o p a b =
+    let texts : flat_map part_words a.parts ≡ flat_map part_words b.parts =
+    ap (λ (ws : List (List ℕ)). drop 1 ws) (sym a.spelled ∙ b.spelled) in
+    let same : b.parts ≡ a.parts = same_parts a.parts b.parts a.ranged b.ranged texts in (
+      one_asking a.parts t u a.tabled (subst (λ (ps : List Part). AsksTable ps u) same b.tabled),
+      a.chosen
+          ∙ (ap over_defaults (one_saying (settings_in a.parts) a.given b.given a.said
+          (subst (λ (ps : List Part). Say (settings_in ps) b.given) same b.said))
+          ∙ sym b.chosen),
+    )
 
 one_tail : (words : List (List ℕ)) (a b : Command) (seed size seed' size' : ℕ) → seed ≡ seed' → size ≡ size' → IsTail words a seed size
     → IsTail words b seed' size' → a ≡ b
@@ -115,68 +136,125 @@ one_gen words a b g h = one_tail words a b g.seed g.size h.seed h.size
     (one_number words 1 g.seed h.seed g.seed_fits h.seed_fits g.seed_at h.seed_at)
     (one_number words 2 g.size h.size (omega arith) (omega arith) g.size_at h.size_at) g.tail h.tail
 
+-- with one word, two or three
 one_run : (words : List (List ℕ)) → words ≡ codes "run" ∷ [] → words ≡ codes "run" ∷ codes "--code" ∷ [] → ⊥
 one_run words a b = some_or_none words 1 (codes "--code") (read_at words _ 1 b) (read_at words _ 1 a)
 
+one_code : (words : List (List ℕ)) → words ≡ codes "run" ∷ codes "--code" ∷ []
+    → words ≡ codes "run" ∷ codes "--code" ∷ codes "--table" ∷ [] → ⊥
+one_code words a b = some_or_none words 2 (codes "--table") (read_at words _ 2 b) (read_at words _ 2 a)
+
+no_code : (words : List (List ℕ)) → words ≡ codes "run" ∷ [] → words ≡ codes "run" ∷ codes "--code" ∷ codes "--table" ∷ [] → ⊥
+no_code words a b = some_or_none words 1 (codes "--code") (read_at words _ 1 b) (read_at words _ 1 a)
+
+one_check : (words : List (List ℕ)) → words ≡ codes "check" ∷ [] → words ≡ codes "check" ∷ codes "--table" ∷ [] → ⊥
+one_check words a b = some_or_none words 1 (codes "--table") (read_at words _ 1 b) (read_at words _ 1 a)
+
+one_alloc : (words : List (List ℕ)) (table : Bool) (options : SearchOptions) (b : Command) → HasSettings (codes "alloc") words table options
+    → IsCommand words b → alloc_of table options ≡ b
+one_alloc words table options b h k =
+    let opened = opens_alloc words b k (read_at words _ 0 h.spelled) in
+    let same = one_search (codes "alloc") words table opened.0 options opened.1 h opened.3 in
+    ap (λ (t : Bool). alloc_of t options) same.0 ∙ (ap (λ (o : SearchOptions). alloc_of opened.0 o) same.1 ∙ sym opened.2)
+
 -- words are those of one command at most
 pub one_command : (words : List (List ℕ)) (a b : Command) → IsCommand words a → IsCommand words b → a ≡ b
-one_command words (Reads (Alloc options)) b h k = let opened = opens_alloc words b k (read_at words _ 0 h.spelled) in
-    ap (λ (o : SearchOptions). Reads (Alloc o)) (one_search (codes "alloc") words options opened.0 h opened.2) ∙ sym opened.1
+one_command words (Reads (Alloc options)) b h k = one_alloc words false options b h k
+one_command words (Reads (AllocTable options)) b h k = one_alloc words true options b h k
 one_command words (Reads Run) b h k = elim (opens_run words b k (read_at words _ 0 h)) [
-  | inl plain_run ↦ sym plain_run.0
-  | inr with_code ↦ absurd (one_run words h with_code.1)
+  | plain_run e w ↦ sym e
+  | coded e w ↦ absurd (one_run words h w)
+  | tabled e w ↦ absurd (no_code words h w)
 ]
 one_command words (Reads RunCode) b h k = elim (opens_run words b k (read_at words _ 0 h)) [
-  | inl plain_run ↦ absurd (one_run words plain_run.1 h)
-  | inr with_code ↦ sym with_code.0
+  | plain_run e w ↦ absurd (one_run words w h)
+  | coded e w ↦ sym e
+  | tabled e w ↦ absurd (one_code words h w)
 ]
-one_command words (Reads Check) b h k = sym (opens_check words b k (read_at words _ 0 h)).0
+one_command words (Reads RunCodeTable) b h k = elim (opens_run words b k (read_at words _ 0 h)) [
+  | plain_run e w ↦ absurd (no_code words w h)
+  | coded e w ↦ absurd (one_code words w h)
+  | tabled e w ↦ sym e
+]
+one_command words (Reads Check) b h k = elim (opens_check words b k (read_at words _ 0 h)) [
+  | inl alone ↦ sym alone.0
+  | inr with_table ↦ absurd (one_check words h with_table.1)
+]
+one_command words (Reads CheckTable) b h k = elim (opens_check words b k (read_at words _ 0 h)) [
+  | inl alone ↦ absurd (one_check words alone.1 h)
+  | inr with_table ↦ sym with_table.0
+]
 one_command words (Reads (Improve options)) b h k = let opened = opens_improve words b k (read_at words _ 0 h.spelled) in
-    ap (λ (o : SearchOptions). Reads (Improve o)) (one_search (codes "improve") words options opened.0 h opened.2) ∙ sym opened.1
+    ap (λ (o : SearchOptions). Reads (Improve o)) (one_search (codes "improve") words false false options opened.0 h opened.2).1
+    ∙ sym opened.1
 one_command words (Makes (Generate seed size)) b h k = one_gen words (Makes (Generate seed size)) b
     (opens_gen words (Makes (Generate seed size)) h (read_at words _ 0 h.spelled)) (opens_gen words b k (read_at words _ 0 h.spelled))
 one_command words (Makes (GenerateAlloc seed size nodes)) b h k = one_gen words (Makes (GenerateAlloc seed size nodes)) b
     (opens_gen words (Makes (GenerateAlloc seed size nodes)) h (read_at words _ 0 h.spelled)) (opens_gen words b k (read_at words _ 0 h.spelled))
 
--- settings for all options
-abbrev all_settings : ℕ → Option ℕ → ℕ → List Setting
-all_settings n None k = Nodes n ∷ Slots k ∷ []
-all_settings n (Some r) k = Nodes n ∷ Regs r ∷ Slots k ∷ []
+-- settings for all options, and behind them the flag where it is asked for
+abbrev flags : Bool → List Part
+flags true = Flag ∷ []
+flags false = []
+
+abbrev all_parts : ℕ → Option ℕ → ℕ → Bool → List Part
+all_parts n None k table = Sets (Nodes n) ∷ Sets (Slots k) ∷ flags table
+all_parts n (Some r) k table = Sets (Nodes n) ∷ Sets (Regs r) ∷ Sets (Slots k) ∷ flags table
 
 abbrev all_given : ℕ → Option ℕ → ℕ → Given
 all_given n r k = record { nodes = Some n; regs = r; slots = Some k }
 
-all_ranged : (n : ℕ) (r : Option ℕ) (k : ℕ) → IsCountOfNodes n → IfSome r IsCountOfRegisters → IsCountOfSlots k
-    → All IsInRange (all_settings n r k)
-all_ranged n None k nodes regs slots = All-cons IsInRange (Nodes n) (Slots k ∷ []) nodes
-    (All-cons IsInRange (Slots k) [] slots (All-nil IsInRange))
-all_ranged n (Some r) k nodes regs slots = All-cons IsInRange (Nodes n) (Regs r ∷ Slots k ∷ []) nodes
+two_ranged : (n k : ℕ) → IsCountOfNodes n → IsCountOfSlots k → All IsInRange (Nodes n ∷ Slots k ∷ [])
+two_ranged n k nodes slots = All-cons IsInRange (Nodes n) (Slots k ∷ []) nodes (All-cons IsInRange (Slots k) [] slots (All-nil IsInRange))
+
+three_ranged : (n r k : ℕ) → IsCountOfNodes n → IsCountOfRegisters r → IsCountOfSlots k → All IsInRange (Nodes n ∷ Regs r ∷ Slots k ∷ [])
+three_ranged n r k nodes regs slots = All-cons IsInRange (Nodes n) (Regs r ∷ Slots k ∷ []) nodes
     (All-cons IsInRange (Regs r) (Slots k ∷ []) regs (All-cons IsInRange (Slots k) [] slots (All-nil IsInRange)))
 
-all_said : (n : ℕ) (r : Option ℕ) (k : ℕ) → Say (all_settings n r k) (all_given n r k)
-all_said n None k = record { nodes = refl; regs = refl; slots = refl }
-all_said n (Some r) k = record { nodes = refl; regs = refl; slots = refl }
+all_ranged : (n : ℕ) (r : Option ℕ) (k : ℕ) (table : Bool) → IsCountOfNodes n → IfSome r IsCountOfRegisters → IsCountOfSlots k
+    → All IsInRange (settings_in (all_parts n r k table))
+all_ranged n None k true nodes regs slots = two_ranged n k nodes slots
+all_ranged n None k false nodes regs slots = two_ranged n k nodes slots
+all_ranged n (Some r) k true nodes regs slots = three_ranged n r k nodes regs slots
+all_ranged n (Some r) k false nodes regs slots = three_ranged n r k nodes regs slots
 
-can_be_asked : (verb : List ℕ) (options : SearchOptions) → AreSearchOptions options
-    → HasSettings verb (line_of verb (all_settings options.nodes options.regs options.slots)) options
-can_be_asked verb options h = record {
-  settings = all_settings options.nodes options.regs options.slots;
+all_said : (n : ℕ) (r : Option ℕ) (k : ℕ) (table : Bool) → Say (settings_in (all_parts n r k table)) (all_given n r k)
+all_said n None k true = record { nodes = refl; regs = refl; slots = refl }
+all_said n None k false = record { nodes = refl; regs = refl; slots = refl }
+all_said n (Some r) k true = record { nodes = refl; regs = refl; slots = refl }
+all_said n (Some r) k false = record { nodes = refl; regs = refl; slots = refl }
+
+all_asked : (n : ℕ) (r : Option ℕ) (k : ℕ) (table : Bool) → AsksTable (all_parts n r k table) table
+all_asked n None k true = refl
+all_asked n None k false = refl
+all_asked n (Some r) k true = refl
+all_asked n (Some r) k false = refl
+
+can_be_asked : (verb : List ℕ) (table : Bool) (options : SearchOptions) → AreSearchOptions options
+    → HasSettings verb (line_of verb (all_parts options.nodes options.regs options.slots table)) table options
+can_be_asked verb table options h = record {
+  parts = all_parts options.nodes options.regs options.slots table;
   given = all_given options.nodes options.regs options.slots;
   spelled = refl;
-  ranged = all_ranged options.nodes options.regs options.slots h.nodes h.allowed.regs h.allowed.slots;
-  said = all_said options.nodes options.regs options.slots;
+  ranged = all_ranged options.nodes options.regs options.slots table h.nodes h.allowed.regs h.allowed.slots;
+  said = all_said options.nodes options.regs options.slots table;
+  tabled = all_asked options.nodes options.regs options.slots table;
   chosen = refl;
 }
 
 -- each command whose numbers are in their ranges has words
 pub words_for : (command : Command) → IsRanged command → (words : List (List ℕ)) × IsCommand words command
 words_for (Reads (Alloc options)) h =
-    (line_of (codes "alloc") (all_settings options.nodes options.regs options.slots), can_be_asked (codes "alloc") options h)
+    (line_of (codes "alloc") (all_parts options.nodes options.regs options.slots false), can_be_asked (codes "alloc") false options h)
+words_for (Reads (AllocTable options)) h =
+    (line_of (codes "alloc") (all_parts options.nodes options.regs options.slots true), can_be_asked (codes "alloc") true options h)
+words_for (Reads CheckTable) h = (codes "check" ∷ codes "--table" ∷ [], refl)
+words_for (Reads RunCodeTable) h = (codes "run" ∷ codes "--code" ∷ codes "--table" ∷ [], refl)
 words_for (Reads Run) h = (codes "run" ∷ [], refl)
 words_for (Reads RunCode) h = (codes "run" ∷ codes "--code" ∷ [], refl)
 words_for (Reads Check) h = (codes "check" ∷ [], refl)
 words_for (Reads (Improve options)) h =
-    (line_of (codes "improve") (all_settings options.nodes options.regs options.slots), can_be_asked (codes "improve") options h)
+    (line_of (codes "improve") (all_parts options.nodes options.regs options.slots false), can_be_asked (codes "improve") false options h)
 words_for (Makes (Generate seed size)) h = (codes "gen" ∷ decimal seed ∷ decimal size ∷ [], plain seed size h.0 h.1)
 words_for (Makes (GenerateAlloc seed size nodes)) h = (
   codes "gen" ∷ decimal seed ∷ decimal size ∷ codes "--nodes" ∷ decimal nodes ∷ [],

@@ -4,6 +4,7 @@ pub mod EndLaws
 pub mod Firsts
 pub mod GenerateLaws
 pub mod Openers
+pub mod PartLaws
 pub mod PlaceLaws
 pub mod Rows
 pub mod RunLaws

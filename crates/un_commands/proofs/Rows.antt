@@ -1,19 +1,19 @@
 -- Lines of words, and what they are.
-use Rattle.std.proofs.Common.{ℕ, ◌≡◌, ◌+◌, ◌<◌, ◌^◌, inl, inr, List, [], ◌∷◌, ◌++◌, get_or, Some, None, codes, refl, sym, ap, ◌∙◌, arith, lit≤, lit<}
+use Rattle.std.proofs.Common.{ℕ, ◌≡◌, ◌+◌, ◌<◌, ◌^◌, inl, inr, true, false, List, [], ◌∷◌, ◌++◌, get_or, Some, None, codes, refl, sym, ap, ◌∙◌, arith, lit≤, lit<}
 use Rattle.std.specs.Fmt.{decimal}
-use Rattle.std.proofs.lemmas.Bool.{eqb-false}
+use Rattle.std.proofs.lemmas.Bool.{eqb-false, true≢false}
 use Rattle.std.proofs.lemmas.Fmt.{decimal_digit, decimal_step, decimal_injective}
 use Rattle.un_commands.specs.declared.command.Command.TheVariants.{Reads}
-use Rattle.un_commands.specs.declared.command.ReadingCommand.TheVariants.{Alloc, RunCode, Check, Improve}
+use Rattle.un_commands.specs.declared.command.ReadingCommand.TheVariants.{Alloc, RunCode, Check, Improve, AllocTable, CheckTable, RunCodeTable}
 use Rattle.un_commands.specs.declared.setting.Setting.{Setting}
 use Rattle.un_commands.specs.declared.setting.Setting.TheVariants.{Nodes, Regs, Slots}
 use Rattle.un_commands.specs.Commands.{IsCommand, IsBadWord}
 use Rattle.un_commands.specs.Places.{StandsAt, IsFresh}
 use Rattle.un_commands.specs.Settings.{IsInRange, flag_of, number_of, none_given, with_setting}
-use Rattle.un_commands.proofs.AllocLaws.{so_far_none, so_far_more, has_settings, bad_flag, bad_value}
+use Rattle.un_commands.proofs.AllocLaws.{so_far_none, so_far_more, so_far_flag, has_settings, bad_flag, bad_value}
 use Rattle.un_commands.proofs.CommandLaws.{bad_first}
 use Rattle.un_commands.proofs.GenerateLaws.{bad_size, bad_nodes}
-use Rattle.un_commands.proofs.Openers.{opens_run, opens_check, read_at}
+use Rattle.un_commands.proofs.Openers.{opens_run, plain, coded, tabled, opens_check, read_at}
 use Rattle.un_commands.proofs.WordLaws.{bad_word}
 
 digit : (n : ℕ) → n < 10 → (48 + n) ∷ [] ≡ decimal n
@@ -36,22 +36,26 @@ nothing = bad_first [] (λ e. no _ e) (λ e. no _ e) (λ e. no _ e) (λ e. no _ 
     no : (w : List ℕ) → None ≡ Some w → ⊥
     no w e = cc
 
--- `alloc x`
-no_option : IsBadWord (codes "alloc" ∷ codes "x" ∷ []) 1
-no_option = bad_flag (codes "alloc") (inl refl) (codes "alloc" ∷ codes "x" ∷ []) 1 none_given (codes "x") refl (so_far_none (codes "alloc") (codes "alloc" ∷ codes "x" ∷ []) refl) refl by
-  where
-    third : (v w : List ℕ) → Some v ≡ Some w → get_or v 2 0 ≡ get_or w 2 0
-    third v w e = let same : v ≡ w = cc in ap (λ (x : List ℕ). get_or x 2 0) same
+third : (v w : List ℕ) → Some v ≡ Some w → get_or v 2 0 ≡ get_or w 2 0
+third v w e = let same : v ≡ w = cc in ap (λ (x : List ℕ). get_or x 2 0) same
 
-    by : (s : Setting) → IsFresh none_given s → ¬ StandsAt (codes "alloc" ∷ codes "x" ∷ []) 1 (flag_of s)
+-- `alloc x`
+abbrev unknown : List (List ℕ)
+unknown = codes "alloc" ∷ codes "x" ∷ []
+
+no_option : IsBadWord unknown 1
+no_option = bad_flag (codes "alloc") true (inl (refl, refl)) unknown 1 none_given false (codes "x") refl
+    (so_far_none (codes "alloc") true unknown refl) refl by (λ may e. eqb-false 0 116 refl (third (codes "x") (codes "--table") e))
+  where
+    by : (s : Setting) → IsFresh none_given s → ¬ StandsAt unknown 1 (flag_of s)
     by (Nodes n) fresh e = eqb-false 0 110 refl (third (codes "x") (codes "--nodes") e)
     by (Regs n) fresh e = eqb-false 0 114 refl (third (codes "x") (codes "--regs") e)
     by (Slots k) fresh e = eqb-false 0 115 refl (third (codes "x") (codes "--slots") e)
 
 -- `alloc --nodes 0`
 no_nodes : IsBadWord (codes "alloc" ∷ codes "--nodes" ∷ codes "0" ∷ []) 2
-no_nodes = bad_value (codes "alloc") (inl refl) (codes "alloc" ∷ codes "--nodes" ∷ codes "0" ∷ []) 1 none_given refl
-    (so_far_none (codes "alloc") (codes "alloc" ∷ codes "--nodes" ∷ codes "0" ∷ []) refl)
+no_nodes = bad_value (codes "alloc") true (inl (refl, refl)) (codes "alloc" ∷ codes "--nodes" ∷ codes "0" ∷ []) 1 none_given false refl
+    (so_far_none (codes "alloc") true (codes "alloc" ∷ codes "--nodes" ∷ codes "0" ∷ []) refl)
     (record { some = Nodes 1; fresh = refl; ranged = (lit≤ tt, lit≤ tt); flag = refl; none = by })
   where
     by : (s : Setting) → flag_of s ≡ codes "--nodes" → IsInRange s
@@ -62,7 +66,8 @@ no_nodes = bad_value (codes "alloc") (inl refl) (codes "alloc" ∷ codes "--node
 
 -- `alloc --regs`
 no_registers : IsBadWord (codes "alloc" ∷ codes "--regs" ∷ []) 2
-no_registers = bad_value (codes "alloc") (inl refl) (codes "alloc" ∷ codes "--regs" ∷ []) 1 none_given refl (so_far_none (codes "alloc") (codes "alloc" ∷ codes "--regs" ∷ []) refl)
+no_registers = bad_value (codes "alloc") true (inl (refl, refl)) (codes "alloc" ∷ codes "--regs" ∷ []) 1 none_given false refl
+    (so_far_none (codes "alloc") true (codes "alloc" ∷ codes "--regs" ∷ []) refl)
     (record { some = Regs 1; fresh = refl; ranged = (lit≤ tt, lit≤ tt); flag = refl; none = λ s flag ranged e. no _ e })
   where
     no : (w : List ℕ) → None ≡ Some w → ⊥
@@ -73,13 +78,11 @@ abbrev twice : List (List ℕ)
 twice = codes "alloc" ∷ codes "--slots" ∷ codes "1" ∷ codes "--slots" ∷ codes "1" ∷ []
 
 slots_twice : IsBadWord twice 3
-slots_twice = bad_flag (codes "alloc") (inl refl) twice 3 (with_setting none_given (Slots 1)) (codes "--slots") refl
-    (so_far_more (codes "alloc") twice 1 none_given (Slots 1) (so_far_none (codes "alloc") twice refl)
+slots_twice = bad_flag (codes "alloc") true (inl (refl, refl)) twice 3 (with_setting none_given (Slots 1)) false (codes "--slots") refl
+    (so_far_more (codes "alloc") true twice 1 none_given false (Slots 1) (so_far_none (codes "alloc") true twice refl)
     (record { fresh = refl; flag = refl; number = ap Some (digit 1 (lit< tt)); ranged = lit≤ tt })) refl by
+    (λ may e. eqb-false 115 116 refl (third (codes "--slots") (codes "--table") e))
   where
-    third : (v w : List ℕ) → Some v ≡ Some w → get_or v 2 0 ≡ get_or w 2 0
-    third v w e = let same : v ≡ w = cc in ap (λ (x : List ℕ). get_or x 2 0) same
-
     given : (k : ℕ) → Some k ≡ None → ⊥
     given k e = cc
 
@@ -88,28 +91,68 @@ slots_twice = bad_flag (codes "alloc") (inl refl) twice 3 (with_setting none_giv
     by (Regs n) fresh e = eqb-false 115 114 refl (third (codes "--slots") (codes "--regs") e)
     by (Slots k) fresh e = given 1 fresh
 
+-- `alloc --table --table`
+abbrev two_tables : List (List ℕ)
+two_tables = codes "alloc" ∷ codes "--table" ∷ codes "--table" ∷ []
+
+table_twice : IsBadWord two_tables 2
+table_twice = bad_flag (codes "alloc") true (inl (refl, refl)) two_tables 2 none_given true (codes "--table") refl
+    (so_far_flag (codes "alloc") true two_tables 1 none_given (so_far_none (codes "alloc") true two_tables refl) refl refl) refl by
+    (λ may e. true≢false may.1)
+  where
+    by : (s : Setting) → IsFresh none_given s → ¬ StandsAt two_tables 2 (flag_of s)
+    by (Nodes n) fresh e = eqb-false 116 110 refl (third (codes "--table") (codes "--nodes") e)
+    by (Regs n) fresh e = eqb-false 116 114 refl (third (codes "--table") (codes "--regs") e)
+    by (Slots k) fresh e = eqb-false 116 115 refl (third (codes "--table") (codes "--slots") e)
+
+-- `improve --table`
+abbrev improving_by : List (List ℕ)
+improving_by = codes "improve" ∷ codes "--table" ∷ []
+
+no_table : IsBadWord improving_by 1
+no_table = bad_flag (codes "improve") false (inr (refl, refl)) improving_by 1 none_given false (codes "--table") refl
+    (so_far_none (codes "improve") false improving_by refl) refl by (λ may e. true≢false (sym may.0))
+  where
+    by : (s : Setting) → IsFresh none_given s → ¬ StandsAt improving_by 1 (flag_of s)
+    by (Nodes n) fresh e = eqb-false 116 110 refl (third (codes "--table") (codes "--nodes") e)
+    by (Regs n) fresh e = eqb-false 116 114 refl (third (codes "--table") (codes "--regs") e)
+    by (Slots k) fresh e = eqb-false 116 115 refl (third (codes "--table") (codes "--slots") e)
+
 -- `alloc --slots 3 --nodes 5`
 abbrev both : List (List ℕ)
 both = codes "alloc" ∷ codes "--slots" ∷ codes "3" ∷ codes "--nodes" ∷ codes "5" ∷ []
 
 slots_and_nodes : IsCommand both (Reads (Alloc (record { nodes = 5; regs = None; slots = 3 })))
-slots_and_nodes = has_settings (codes "alloc") both 5 _
-    (so_far_more (codes "alloc") both 3 (with_setting none_given (Slots 3)) (Nodes 5)
-    (so_far_more (codes "alloc") both 1 none_given (Slots 3) (so_far_none (codes "alloc") both refl)
+slots_and_nodes = has_settings (codes "alloc") true both 5 _ false
+    (so_far_more (codes "alloc") true both 3 (with_setting none_given (Slots 3)) false (Nodes 5)
+    (so_far_more (codes "alloc") true both 1 none_given false (Slots 3) (so_far_none (codes "alloc") true both refl)
     (record { fresh = refl; flag = refl; number = ap Some (digit 3 (lit< tt)); ranged = lit≤ tt }))
+    (record { fresh = refl; flag = refl; number = ap Some (digit 5 (lit< tt)); ranged = (lit≤ tt, lit≤ tt) })) refl
+
+-- `alloc --slots 3 --table --nodes 5`
+abbrev between : List (List ℕ)
+between = codes "alloc" ∷ codes "--slots" ∷ codes "3" ∷ codes "--table" ∷ codes "--nodes" ∷ codes "5" ∷ []
+
+table_between : IsCommand between (Reads (AllocTable (record { nodes = 5; regs = None; slots = 3 })))
+table_between = has_settings (codes "alloc") true between 6 _ true
+    (so_far_more (codes "alloc") true between 4 (with_setting none_given (Slots 3)) true (Nodes 5)
+    (so_far_flag (codes "alloc") true between 3 (with_setting none_given (Slots 3))
+    (so_far_more (codes "alloc") true between 1 none_given false (Slots 3) (so_far_none (codes "alloc") true between refl)
+    (record { fresh = refl; flag = refl; number = ap Some (digit 3 (lit< tt)); ranged = lit≤ tt })) refl refl)
     (record { fresh = refl; flag = refl; number = ap Some (digit 5 (lit< tt)); ranged = (lit≤ tt, lit≤ tt) })) refl
 
 -- `alloc` alone
 alone : IsCommand (codes "alloc" ∷ []) (Reads (Alloc (record { nodes = 2000; regs = None; slots = 256 })))
-alone = has_settings (codes "alloc") (codes "alloc" ∷ []) 1 none_given (so_far_none (codes "alloc") (codes "alloc" ∷ []) refl) refl
+alone = has_settings (codes "alloc") true (codes "alloc" ∷ []) 1 none_given false
+    (so_far_none (codes "alloc") true (codes "alloc" ∷ []) refl) refl
 
 -- `improve --regs 5`
 abbrev improving : List (List ℕ)
 improving = codes "improve" ∷ codes "--regs" ∷ codes "5" ∷ []
 
 improve_with_registers : IsCommand improving (Reads (Improve (record { nodes = 2000; regs = Some 5; slots = 256 })))
-improve_with_registers = has_settings (codes "improve") improving 3 _
-    (so_far_more (codes "improve") improving 1 none_given (Regs 5) (so_far_none (codes "improve") improving refl)
+improve_with_registers = has_settings (codes "improve") false improving 3 _ false
+    (so_far_more (codes "improve") false improving 1 none_given false (Regs 5) (so_far_none (codes "improve") false improving refl)
     (record { fresh = refl; flag = refl; number = ap Some (digit 5 (lit< tt)); ranged = (lit≤ tt, lit≤ tt) })) refl
 
 -- `gen 7`
@@ -137,21 +180,33 @@ no_count = bad_nodes (codes "gen" ∷ codes "7" ∷ codes "16" ∷ codes "--node
 word_more : IsBadWord (codes "run" ∷ codes "--code" ∷ codes "x" ∷ []) 2
 word_more = bad_word (codes "run" ∷ codes "--code" ∷ codes "x" ∷ []) 2 (Reads RunCode) (codes "run" ∷ codes "--code" ∷ []) refl refl
     (λ other others is alike. elim (opens_run others other is (sym (alike 0 (lit< tt)))) [
-      | inl alone_run ↦ no _ (alike 1 (lit< tt) ∙ read_at others _ 1 alone_run.1)
-      | inr with_code ↦ no _ (alike 2 (lit< tt) ∙ read_at others _ 2 with_code.1)
+      | plain e w ↦ no _ (alike 1 (lit< tt) ∙ read_at others _ 1 w)
+      | coded e w ↦ no _ (alike 2 (lit< tt) ∙ read_at others _ 2 w)
+      | tabled e w ↦ eqb-false 0 116 refl (third (codes "x") (codes "--table") (alike 2 (lit< tt) ∙ read_at others _ 2 w))
     ])
   where
     no : (w : List ℕ) → Some w ≡ None → ⊥
     no w e = cc
 
+-- `run --code --table`
+run_by_table : IsCommand (codes "run" ∷ codes "--code" ∷ codes "--table" ∷ []) (Reads RunCodeTable)
+run_by_table = refl
+
 -- `check`
 check_alone : IsCommand (codes "check" ∷ []) (Reads Check)
 check_alone = refl
 
+-- `check --table`
+check_by_table : IsCommand (codes "check" ∷ codes "--table" ∷ []) (Reads CheckTable)
+check_by_table = refl
+
 -- `check x`
 word_behind_check : IsBadWord (codes "check" ∷ codes "x" ∷ []) 1
 word_behind_check = bad_word (codes "check" ∷ codes "x" ∷ []) 1 (Reads Check) (codes "check" ∷ []) refl refl
-    (λ other others is alike. no _ (alike 1 (lit< tt) ∙ read_at others _ 1 (opens_check others other is (sym (alike 0 (lit< tt)))).1))
+    (λ other others is alike. elim (opens_check others other is (sym (alike 0 (lit< tt)))) [
+      | inl by_version ↦ no _ (alike 1 (lit< tt) ∙ read_at others _ 1 by_version.1)
+      | inr by_table ↦ eqb-false 0 116 refl (third (codes "x") (codes "--table") (alike 1 (lit< tt) ∙ read_at others _ 1 by_table.1))
+    ])
   where
     no : (w : List ℕ) → Some w ≡ None → ⊥
     no w e = cc

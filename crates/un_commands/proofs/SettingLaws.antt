@@ -1,5 +1,5 @@
 -- Lists of settings: their words, and what they say.
-use Rattle.std.proofs.Common.{ℕ, suc, ◌≡◌, ◌+◌, ◌*◌, ◌<◌, ◌≤◌, ◌^◌, List, [], ◌∷◌, ◌++◌, length, get_or, Option, Some, None, All, codes, refl, sym, ap, ◌∙◌, arith, lit≤}
+use Rattle.std.proofs.Common.{ℕ, suc, ◌≡◌, ◌+◌, ◌<◌, ◌≤◌, ◌^◌, List, [], ◌∷◌, ◌++◌, length, get_or, Option, Some, None, All, codes, refl, sym, ap, ◌∙◌, arith, lit≤}
 use Rattle.std.specs.Fmt.{decimal}
 use Rattle.std.specs.List.{flat_map, slice_get}
 use Rattle.std.specs.Option.{option_to_list}
@@ -14,7 +14,7 @@ use Rattle.un_commands.specs.declared.command.TheConstants.{MOST_NODES}
 use Rattle.un_commands.specs.declared.setting.Setting.{Setting}
 use Rattle.un_commands.specs.declared.setting.Setting.TheVariants.{Nodes, Regs, Slots}
 use Rattle.un_commands.specs.declared.setting.Given.{Given}
-use Rattle.un_commands.specs.Settings.{IsInRange, flag_of, number_of, words_of, nodes_in, regs_in, slots_in, Say, none_given, with_setting}
+use Rattle.un_commands.specs.Settings.{IsInRange, flag_of, number_of, nodes_in, regs_in, slots_in, Say, none_given, with_setting}
 use Rattle.un_commands.specs.Places.{StandsAt, NoNumberAt, IsFresh, NoValueAt}
 
 -- numbers in range are small
@@ -36,28 +36,11 @@ same_setting (Regs m) (Slots n) flag number a b = absurd (eqb-false 114 115 refl
 same_setting (Slots m) (Nodes n) flag number a b = absurd (eqb-false 115 110 refl (ap (λ (w : List ℕ). get_or w 2 0) flag))
 same_setting (Slots m) (Regs n) flag number a b = absurd (eqb-false 115 114 refl (ap (λ (w : List ℕ). get_or w 2 0) flag))
 
-same_some : (v w : List ℕ) → Some v ≡ Some w → v ≡ w
+pub same_some : (v w : List ℕ) → Some v ≡ Some w → v ≡ w
 same_some v w e = cc
 
-none_some : (v : List ℕ) → Some v ≡ None → ⊥
+pub none_some : (v : List ℕ) → Some v ≡ None → ⊥
 none_some v e = cc
-
--- settings whose words begin with those of others begin with those settings
-pub begin_with : (ss others : List Setting) → All IsInRange ss → All IsInRange others
-    → ((j : ℕ) → j < length (flat_map words_of ss) → slice_get (flat_map words_of ss) j ≡ slice_get (flat_map words_of others) j)
-    → (more : List Setting) × (others ≡ ss ++ more)
-begin_with [] others a b alike = (others, refl)
-begin_with (s ∷ ss) [] a b alike = absurd (none_some (flag_of s) (alike 0 (omega arith)))
-begin_with (s ∷ ss) (t ∷ ts) a b alike =
-    let same : s ≡ t = same_setting s t (same_some _ _ (alike 0 (omega arith))) (same_some _ _ (alike 1 (omega arith)))
-    (All-head IsInRange s ss a) (All-head IsInRange t ts b) in
-    let rest = begin_with ss ts (All-tail IsInRange s ss a) (All-tail IsInRange t ts b) (λ j h. alike (suc (suc j)) (omega arith)) in
-    (rest.0, ap (λ (u : Setting). u ∷ ts) (sym same) ∙ ap (λ (us : List Setting). s ∷ us) rest.1)
-
--- two words each
-pub length_words : (ss : List Setting) → length (flat_map words_of ss) ≡ 2 * length ss
-length_words [] = refl
-length_words (s ∷ ss) = let rest = length_words ss in omega arith
 
 -- each setting says one thing
 counted : (ss : List Setting) → length (flat_map nodes_in ss) + (length (flat_map regs_in ss) + length (flat_map slots_in ss)) ≡ length ss

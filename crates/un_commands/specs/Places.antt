@@ -1,5 +1,5 @@
 -- What stands at a place of a command line.
-use Rattle.std.specs.Prelude.{ℕ, ◌≡◌, ◌+◌, ◌≤◌, ◌⊎◌, List, Some, None, decimal, slice_get}
+use Rattle.std.specs.Prelude.{ℕ, ◌≡◌, ◌+◌, ◌≤◌, ◌⊎◌, Bool, true, false, List, Some, None, decimal, slice_get}
 use Rattle.un_commands.specs.declared.setting.Setting.{Setting}
 use Rattle.un_commands.specs.declared.setting.Setting.TheVariants.{Nodes, Regs, Slots}
 use Rattle.un_commands.specs.declared.setting.Given.{Given}
@@ -43,3 +43,7 @@ pub record NoValueAt (words : List (List ℕ)) (place : ℕ) (given : Given) : T
 abbrev pub IsBadSetting : List (List ℕ) → ℕ → Given → ℕ → Type 0
 IsBadSetting words place given bad =
     ((bad ≡ place) × NoFlagAt words place given) ⊎ ((bad ≡ place + 1) × NoValueAt words place given)
+
+-- the flag may stand among the settings, and is not given yet
+abbrev pub MayAsk : Bool → Bool → Type 0
+MayAsk takes table = (takes ≡ true) × (table ≡ false)

@@ -1,5 +1,5 @@
 -- The options of a search on a command line: how each is spelled, and what several of them say together.
-use Rattle.std.specs.Prelude.{ℕ, ◌≡◌, ◌≤◌, List, [], ◌∷◌, Some, None, codes, decimal, unwrap_or}
+use Rattle.std.specs.Prelude.{ℕ, ◌≡◌, ◌≤◌, Bool, true, false, List, [], ◌∷◌, Some, None, codes, count_by, decimal, if◌then◌else◌, unwrap_or}
 use Rattle.std.specs.Option.{option_to_list}
 use Rattle.std.specs.List.{flat_map}
 use Rattle.un_isa.specs.declared.reg.TheConstants.{SLOTS}
@@ -59,6 +59,34 @@ pub record Say (settings : List Setting) (given : Given) : Type 0 where
   pub nodes : flat_map nodes_in settings ≡ option_to_list given.nodes
   pub regs : flat_map regs_in settings ≡ option_to_list given.regs
   pub slots : flat_map slots_in settings ≡ option_to_list given.slots
+
+-- ---- what may stand behind the first word: settings, and behind `alloc` the flag `--table` too, which has no value
+
+pub data Part : Type 0 where
+  Sets : Setting → Part
+  Flag : Part
+
+abbrev pub part_words : Part → List (List ℕ)
+part_words (Sets setting) = words_of setting
+part_words Flag = codes "--table" ∷ []
+
+abbrev pub set_by : Part → List Setting
+set_by (Sets setting) = setting ∷ []
+set_by Flag = []
+
+-- the settings among them
+abbrev pub settings_in : List Part → List Setting
+settings_in parts = flat_map set_by parts
+
+abbrev pub is_flag : Part → Bool
+is_flag (Sets setting) = false
+is_flag Flag = true
+
+-- the flag stands once where a table is asked for, and else nowhere
+abbrev pub AsksTable : List Part → Bool → Type 0
+AsksTable parts table = count_by is_flag parts ≡ if table then 1 else 0
+
+-- ---- as a state
 
 abbrev pub none_given : Given
 none_given = record { nodes = None; regs = None; slots = None }

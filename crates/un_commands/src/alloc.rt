@@ -1,9 +1,9 @@
-//! The words of the commands that search: `alloc` and `improve`, each with settings.
+//! The words of the commands that search: `alloc` and `improve`, each with settings, and `alloc` with the flag `--table` among them too.
 
-ghost use Rattle.std.specs.Prelude.{◌+◌, ◌<◌, ◌^◌, IfOk, IfErr, codes};
+ghost use Rattle.std.specs.Prelude.{◌≡◌, ◌↔◌, ◌+◌, ◌<◌, ◌^◌, IfOk, IfErr, IsTrue, codes, true};
 ghost use Rattle.un_commands.specs.Alloc.{IsSearchWord, HasSettings};
 ghost use Rattle.un_commands.specs.Commands.{IsCommand, IsBadWord};
-ghost use Rattle.un_commands.specs.Places.{StandsAt, IsNext, IsBadSetting};
+ghost use Rattle.un_commands.specs.Places.{StandsAt, IsNext, IsBadSetting, MayAsk};
 
 use crate::command::{Command, MOST_NODES, ReadingCommand, SearchOptions};
 use crate::place::number_within;
@@ -36,49 +36,69 @@ fn read_setting(words: &[Word], place: u32, flag: &Word, given: &Given) -> Resul
     }
 }
 
-/// The options that the settings behind a first word spell, each once.
+/// Whether a word is the flag `--table`, where that may stand and is not given yet.
+fn asks_table(flag: &Word, takes: bool, table: bool) -> bool
+    ensures { IsTrue result ↔ (MayAsk takes table × (flag.now ≡ codes "--table")) }
+{
+    takes && !table && flag.is(b"--table")
+}
+
+/// Whether the flag `--table` stands behind a first word, where it may, and the options that the settings there spell, each once.
 ///
 /// # Errors
 /// The first place that is bad.
-fn read_settings(words: &[Word], verb: &[u8]) -> Result<SearchOptions, u32>
-    requires named { IsSearchWord verb.now }
+fn read_settings(words: &[Word], verb: &[u8], takes: bool) -> Result<(bool, SearchOptions), u32>
+    requires named { IsSearchWord verb.now takes }
     requires first { StandsAt words.now 0 verb.now }
-    ensures ok { IfOk result (HasSettings verb.now words.now) }
+    ensures ok { IfOk result (λ asked. HasSettings verb.now words.now asked.0 asked.1) }
+    ensures may { IfOk result (λ asked. asked.0 ≡ true → takes ≡ true) }
     ensures bad { IfErr result (IsBadWord words.now) }
 {
     let _ = verb;
     let mut given = Given::nothing();
+    let mut table = false;
     let mut place = 1;
     while let Some(flag) = words.get(place as usize) {
+        if asks_table(flag, takes, table) {
+            table = true;
+            place += 1;
+            continue;
+        }
         let setting = read_setting(words, place, flag, &given)?;
         given = given.with(setting);
         place += 2;
     }
-    Ok(given.options())
+    Ok((table, given.options()))
 }
 
 /// The command of words that begin with `alloc`.
 ///
 /// # Errors
 /// The first place that is bad.
+#[tactic(auto, using(crate::proofs::Openers::with_flag, crate::proofs::Openers::without_flag))]
 pub fn read_alloc(words: &[Word]) -> Result<Command, u32>
     requires { StandsAt words.now 0 (codes "alloc") }
     ensures ok { IfOk result (IsCommand words.now) }
     ensures bad { IfErr result (IsBadWord words.now) }
 {
-    let options = read_settings(words, b"alloc")?;
-    Ok(Command::Reads(ReadingCommand::Alloc(options)))
+    let (table, options) = read_settings(words, b"alloc", true)?;
+    if table {
+        Ok(Command::Reads(ReadingCommand::AllocTable(options)))
+    } else {
+        Ok(Command::Reads(ReadingCommand::Alloc(options)))
+    }
 }
 
 /// The command of words that begin with `improve`.
 ///
 /// # Errors
 /// The first place that is bad.
+#[tactic(auto, using(crate::proofs::Openers::improves))]
 pub fn read_improve(words: &[Word]) -> Result<Command, u32>
     requires { StandsAt words.now 0 (codes "improve") }
     ensures ok { IfOk result (IsCommand words.now) }
     ensures bad { IfErr result (IsBadWord words.now) }
 {
-    let options = read_settings(words, b"improve")?;
+    let (_, options) = read_settings(words, b"improve", false)?;
     Ok(Command::Reads(ReadingCommand::Improve(options)))
 }

@@ -5,7 +5,7 @@ ghost use Rattle.un_commands.specs.Commands.{IsCommand, IsBadWord};
 ghost use Rattle.un_commands.specs.Places.{StandsAt};
 
 use crate::command::{Command, ReadingCommand};
-use crate::place::end_at;
+use crate::place::{end_at, word_at};
 use un_outside::words::Word;
 
 /// The command of words that begin with `check`.
@@ -17,6 +17,10 @@ pub fn read_check(words: &[Word]) -> Result<Command, u32>
     ensures ok { IfOk result (IsCommand words.now) }
     ensures bad { IfErr result (IsBadWord words.now) }
 {
-    end_at(words, 1)?;
-    Ok(Command::Reads(ReadingCommand::Check))
+    if words.len() == 1 {
+        return Ok(Command::Reads(ReadingCommand::Check));
+    }
+    word_at(words, 1, b"--table")?;
+    end_at(words, 2)?;
+    Ok(Command::Reads(ReadingCommand::CheckTable))
 }

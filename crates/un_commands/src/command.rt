@@ -50,6 +50,12 @@ pub enum ReadingCommand {
     Check,
     /// The report of a function, by a search from a schedule of it on.
     Improve(SearchOptions),
+    /// The report of a function by a table of the processor, with its code.
+    AllocTable(SearchOptions),
+    /// Whether the report of a function is accepted by such a table.
+    CheckTable,
+    /// What code does from a start by such a table.
+    RunCodeTable,
 }
 
 /// What it may ask for without one.

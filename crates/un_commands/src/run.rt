@@ -21,6 +21,10 @@ pub fn read_run(words: &[Word]) -> Result<Command, u32>
         return Ok(Command::Reads(ReadingCommand::Run));
     }
     word_at(words, 1, b"--code")?;
-    end_at(words, 2)?;
-    Ok(Command::Reads(ReadingCommand::RunCode))
+    if words.len() == 2 {
+        return Ok(Command::Reads(ReadingCommand::RunCode));
+    }
+    word_at(words, 2, b"--table")?;
+    end_at(words, 3)?;
+    Ok(Command::Reads(ReadingCommand::RunCodeTable))
 }

@@ -51,10 +51,12 @@ pub enum Status {
     No(NoCause),
     /// The input's second part is not in its grammar, at this line of it, from 1.
     BadReport { line: u32 },
+    /// The text of a table is refused, by the cause of this number, 1 to 5.
+    BadTable { code: u8 },
 }
 
 impl Status {
-    /// The exit status of the program, 0 to 9 in the order of the variants.
+    /// The exit status of the program: 0 to 9 in the order of the variants, and 12 for a refused table.
     pub fn number(&self) -> u8
         ensures { result ≡ number_of self.now }
     {
@@ -69,6 +71,7 @@ impl Status {
             Status::NoMemory => 7,
             Status::No(_) => 8,
             Status::BadReport { .. } => 9,
+            Status::BadTable { .. } => 12,
         }
     }
 }

@@ -2,15 +2,16 @@
 use Rattle.std.proofs.Common.{◌≡◌, ℕ, inl, inr, true, List, [], sym, ap, ◌∙◌, subst, append-nil, count_by}
 use Rattle.un_base.specs.Lines.{is_line_feed}
 use Rattle.un_isa.specs.declared.start.Start.{Start}
+use Rattle.un_isa.specs.declared.table.Table.{Table}
 use Rattle.un_listing_reader.specs.declared.read.ListingError.TheVariants.{NoMemory as NoRoom, BadListing}
 use Rattle.un_listing_reader.specs.Reading.{IsListingOf, IsFirstBad as IsBadListing}
 use Rattle.un_listing_reader.proofs.CodeBack.{one_code, one_bad, refused}
 use Rattle.un_packet.specs.declared.code.Code.{Code}
 use Rattle.un_start.specs.StartTexts.{IsStartText}
-use Rattle.un_runs.specs.Grammars.{IsSourceInput, IsCodeInput}
+use Rattle.un_runs.specs.Grammars.{IsSourceInput, AreCodeTexts, IsCodeInput}
 use Rattle.un_runs.specs.Inputs.{first_part, second_part}
-use Rattle.un_runs.specs.Refusals.{HasNoRoom, IsBadFor, IsBadSourceRun, IsBadCodeRun}
-use Rattle.un_runs.specs.Shown.{has_room, IsSourceRun, IsCodeRun}
+use Rattle.un_runs.specs.Refusals.{HasNoRoom, IsBadFor, IsBadSourceRun, IsBadRun, IsBadCodeRun}
+use Rattle.un_runs.specs.Shown.{has_room, IsSourceRun, IsRunOfListing, IsCodeRun}
 use Rattle.un_runs.proofs.StartLaws.{one_front, start_not_bad, one_bad_line, roomy_start}
 
 one_tight : (frame : ℕ) (text : List ℕ) (m n : ℕ) → HasNoRoom frame text m → HasNoRoom frame text n → m ≡ n
@@ -51,24 +52,23 @@ source_run_good input out h = record {
 listing_not_bad : (text : List ℕ) (c : Code) (line : ℕ) → IsListingOf text c → IsBadListing text line → ⊥
 listing_not_bad text c line listed bad = let no : BadListing line ≡ NoRoom = refused text (BadListing line) c bad listed in cc no
 
-pub one_code_line : (input : List ℕ) (m n : ℕ) → IsBadCodeRun input m → IsBadCodeRun input n → m ≡ n
-one_code_line input m n (inl b) (inl c) = one_bad (first_part input) m n b c
-one_code_line input m n (inl b) (inr c) = absurd (listing_not_bad (first_part input) c.code m c.listed b)
-one_code_line input m n (inr b) (inl c) = absurd (listing_not_bad (first_part input) b.code n b.listed c)
-one_code_line input m n (inr b) (inr c) =
-    let same : c.code ≡ b.code = one_code (first_part input) c.code b.code c.listed b.listed in
-    one_bad_for b.code.frame (second_part input) m n b.bad
-    (subst (λ (k : Code). IsBadFor k.frame (second_part input) n) same c.bad)
+-- of a listing and a start
+pub one_run_line : (listing text : List ℕ) (m n : ℕ) → IsBadRun listing text m → IsBadRun listing text n → m ≡ n
+one_run_line listing text m n (inl b) (inl c) = one_bad listing m n b c
+one_run_line listing text m n (inl b) (inr c) = absurd (listing_not_bad listing c.code m c.listed b)
+one_run_line listing text m n (inr b) (inl c) = absurd (listing_not_bad listing b.code n b.listed c)
+one_run_line listing text m n (inr b) (inr c) =
+    let same : c.code ≡ b.code = one_code listing c.code b.code c.listed b.listed in
+    one_bad_for b.code.frame text m n b.bad (subst (λ (k : Code). IsBadFor k.frame text n) same c.bad)
 
-pub good_code : (input : List ℕ) (line : ℕ) → IsCodeInput input → IsBadCodeRun input line → ⊥
-good_code input line g (inl b) = listing_not_bad (first_part input) g.code line g.listed b
-good_code input line g (inr b) =
-    let same : b.code ≡ g.code = one_code (first_part input) b.code g.code b.listed g.listed in
-    none_bad_for g.code.frame (second_part input) g.start g.count line g.started g.room
-    (subst (λ (k : Code). IsBadFor k.frame (second_part input) line) same b.bad)
+pub good_texts : (listing text : List ℕ) (line : ℕ) → AreCodeTexts listing text → IsBadRun listing text line → ⊥
+good_texts listing text line g (inl b) = listing_not_bad listing g.code line g.listed b
+good_texts listing text line g (inr b) =
+    let same : b.code ≡ g.code = one_code listing b.code g.code b.listed g.listed in
+    none_bad_for g.code.frame text g.start g.count line g.started g.room (subst (λ (k : Code). IsBadFor k.frame text line) same b.bad)
 
-pub code_run_good : (input out : List ℕ) → IsCodeRun input out → IsCodeInput input
-code_run_good input out h = record {
+pub run_good : (t : Table) (listing text out : List ℕ) → IsRunOfListing t listing text out → AreCodeTexts listing text
+run_good t listing text out h = record {
   code = h.code;
   listed = h.listed;
   start = h.run.start;
@@ -76,3 +76,12 @@ code_run_good input out h = record {
   started = h.run.started;
   room = h.run.room;
 }
+
+pub one_code_line : (input : List ℕ) (m n : ℕ) → IsBadCodeRun input m → IsBadCodeRun input n → m ≡ n
+one_code_line input = one_run_line (first_part input) (second_part input)
+
+pub good_code : (input : List ℕ) (line : ℕ) → IsCodeInput input → IsBadCodeRun input line → ⊥
+good_code input = good_texts (first_part input) (second_part input)
+
+pub code_run_good : (t : Table) (input out : List ℕ) → IsCodeRun t input out → IsCodeInput input
+code_run_good t input = run_good t (first_part input) (second_part input)

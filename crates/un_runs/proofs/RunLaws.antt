@@ -1,12 +1,7 @@
 -- Refusals of the parts of an input are those of the input.
 use Rattle.std.proofs.Common.{◌≡◌, ℕ, inl, inr, false, List, ◌++◌, subst}
-use Rattle.un_isa.specs.Hexagon.{HEXAGON}
-use Rattle.un_isa.specs.declared.outcome.Outcome.{Outcome}
 use Rattle.un_isa.specs.declared.start.Start.{Start}
-use Rattle.un_isa.specs.declared.table.Table.{Table}
 use Rattle.un_ir.specs.declared.function.Function.{Function}
-use Rattle.un_packet.specs.Ends.{IsOutcome}
-use Rattle.un_packet.specs.Run.{packet_run}
 use Rattle.un_packet.specs.declared.code.Code.{Code}
 use Rattle.un_reader.specs.Errors.{Tells}
 use Rattle.un_reader.specs.Read.{IsRead, IsTextFault}
@@ -16,13 +11,13 @@ use Rattle.un_listing_reader.specs.declared.read.ListingError.{ListingError}
 use Rattle.un_listing_reader.specs.declared.read.ListingError.TheVariants.{NoMemory as NoListingMemory, BadListing}
 use Rattle.un_start.specs.declared.read.StartError.{StartError}
 use Rattle.un_start.specs.declared.read.StartError.TheVariants.{NoMemory as NoStartMemory, BadStart}
-use Rattle.un_listing_reader.specs.Reading.{IsListingOf, IsFirstBad as IsBadListing, IsErrorOf as IsListingError}
+use Rattle.un_listing_reader.specs.Reading.{IsListingOf, IsErrorOf as IsListingError}
 use Rattle.un_start.specs.StartTexts.{IsStartText, IsFirstBad as IsBadStart, IsErrorOf as IsStartError}
 use Rattle.un_runs.specs.declared.refused.Refused.{Refused}
 use Rattle.un_runs.specs.declared.refused.Refused.TheVariants.{NoMemory, TextFault, BadSecond}
 use Rattle.un_runs.specs.Inputs.{first_part, second_part}
-use Rattle.un_runs.specs.Refusals.{function_refused, start_refused, listing_refused, RefusesFunction, RefusesStart, RefusesListing, RefusesFor, RefusesSource, RefusesCode, IsTight, IsRoomy, IsFaultOf, IsBadFor}
-use Rattle.un_runs.specs.Shown.{has_room, IsRunOf, IsSourceRun, IsRunOfCode, IsCodeRun}
+use Rattle.un_runs.specs.Refusals.{function_refused, start_refused, listing_refused, RefusesFunction, RefusesStart, RefusesListing, RefusesFor, RefusesSource, RefusesRun, IsTight, IsRoomy, IsFaultOf}
+use Rattle.un_runs.specs.Shown.{has_room, IsRunOf, IsSourceRun}
 
 -- ---- what a reader finds
 
@@ -65,33 +60,16 @@ source_is input first second out f a b read run = record {
 
 -- ---- code
 
-pub code_first : (input part : List ℕ) (e : Refused) → part ≡ first_part input → RefusesListing part e → RefusesCode input e
-code_first input part NoMemory is h = tt
-code_first input part (TextFault line code) is h = absurd h
-code_first input part (BadSecond line) is h = inl (subst (λ (t : List ℕ). IsBadListing t line) is h)
+pub code_first : (listing text : List ℕ) (e : Refused) → RefusesListing listing e → RefusesRun listing text e
+code_first listing text NoMemory h = tt
+code_first listing text (TextFault line code) h = absurd h
+code_first listing text (BadSecond line) h = inl h
 
-pub code_second : (input first second : List ℕ) (c : Code) (e : Refused) → first ≡ first_part input → second ≡ second_part input
-    → IsListingOf first c → RefusesFor c.frame second e → RefusesCode input e
-code_second input first second c NoMemory a b listed h = tt
-code_second input first second c (TextFault line code) a b listed h = absurd h
-code_second input first second c (BadSecond line) a b listed h = inr (record {
-  code = c;
-  listed = subst (λ (t : List ℕ). IsListingOf t c) a listed;
-  bad = subst (λ (t : List ℕ). IsBadFor c.frame t line) b h;
-})
-
-pub code_is : (input first second out : List ℕ) (c : Code) → first ≡ first_part input → second ≡ second_part input
-    → IsListingOf first c → IsRunOfCode c second out → IsCodeRun input out
-code_is input first second out c a b listed run = record {
-  code = c;
-  listed = subst (λ (t : List ℕ). IsListingOf t c) a listed;
-  run = subst (λ (t : List ℕ). IsRunOfCode c t out) b run;
-}
-
--- the outcome for the table of the machine
-pub of_table : (t : Table) (c : Code) (start : Start) (count : ℕ) (outcome : Outcome) → t ≡ HEXAGON
-    → IsOutcome c.blocks (packet_run t c start count) outcome → IsOutcome c.blocks (packet_run HEXAGON c start count) outcome
-of_table t c start count outcome same is = subst (λ (u : Table). IsOutcome c.blocks (packet_run u c start count) outcome) same is
+pub code_second : (listing text : List ℕ) (c : Code) (e : Refused) → IsListingOf listing c → RefusesFor c.frame text e
+    → RefusesRun listing text e
+code_second listing text c NoMemory listed h = tt
+code_second listing text c (TextFault line code) listed h = absurd h
+code_second listing text c (BadSecond line) listed h = inr (record { code = c; listed = listed; bad = h })
 
 -- a line of a start is bad for code as it is, where none without room stands before it
 pub for_line : (frame : ℕ) (text : List ℕ) (line : ℕ) → IsRoomy frame text → IsBadStart text line → RefusesFor frame text (BadSecond line)

@@ -18,10 +18,13 @@ pub record IsSourceInput (input : List ℕ) : Type 0 where
   pub started : IsStartText (second_part input) start count
 
 -- the listing of code, and a start with room for its frame
-pub record IsCodeInput (input : List ℕ) : Type 0 where
+pub record AreCodeTexts (listing text : List ℕ) : Type 0 where
   pub code : Code
-  pub listed : IsListingOf (first_part input) code
+  pub listed : IsListingOf listing code
   pub start : Start
   pub count : ℕ
-  pub started : IsStartText (second_part input) start count
+  pub started : IsStartText text start count
   pub room : has_room code.frame start.regs ≡ true
+
+abbrev pub IsCodeInput : List ℕ → Type 0
+IsCodeInput input = AreCodeTexts (first_part input) (second_part input)

@@ -1,4 +1,4 @@
--- An input in two parts: what stands before the first line `---`, and what stands behind it.
+-- An input in two parts: what stands before the first line `---`, and what stands behind it. In three, the second is parted again.
 use Rattle.std.specs.Prelude.{ℕ, Bool, ◌||◌, List, [], ◌∷◌, ◌++◌, codes, if◌then◌else◌}
 use Rattle.std.specs.List.{concat}
 use Rattle.std.specs.Str.{bytes_eq}
@@ -23,3 +23,11 @@ first_part input = before_rule (pieces_of input)
 
 abbrev pub second_part : List ℕ → List ℕ
 second_part input = behind_rule (pieces_of input)
+
+-- of three parts, what stands between the first such line and the second
+abbrev pub middle_part : List ℕ → List ℕ
+middle_part input = first_part (second_part input)
+
+-- and what stands behind the second, nothing where there is none
+abbrev pub last_part : List ℕ → List ℕ
+last_part input = second_part (second_part input)

@@ -99,17 +99,25 @@ RefusesSource input NoMemory = ⊤
 RefusesSource input (TextFault line code) = IsFaultOf (first_part input) line code
 RefusesSource input (BadSecond line) = IsBadSourceRun input line
 
--- the first part is a listing, and this line of the second one is bad for its code
-pub record IsBadCodeStart (input : List ℕ) (line : ℕ) : Type 0 where
+-- a text is a listing, and this line of a start is bad for its code
+pub record IsBadForListing (listing text : List ℕ) (line : ℕ) : Type 0 where
   pub code : Code
-  pub listed : IsListingOf (first_part input) code
-  pub bad : IsBadFor code.frame (second_part input) line
+  pub listed : IsListingOf listing code
+  pub bad : IsBadFor code.frame text line
 
 -- the listing is looked at first
+abbrev pub IsBadRun : List ℕ → List ℕ → ℕ → Type 0
+IsBadRun listing text line = IsBadListing listing line ⊎ IsBadForListing listing text line
+
+-- of a listing and a start
+abbrev pub RefusesRun : List ℕ → List ℕ → Refused → Type 0
+RefusesRun listing text NoMemory = ⊤
+RefusesRun listing text (TextFault line code) = ⊥
+RefusesRun listing text (BadSecond line) = IsBadRun listing text line
+
+-- where they are the two parts of an input
 abbrev pub IsBadCodeRun : List ℕ → ℕ → Type 0
-IsBadCodeRun input line = IsBadListing (first_part input) line ⊎ IsBadCodeStart input line
+IsBadCodeRun input line = IsBadRun (first_part input) (second_part input) line
 
 abbrev pub RefusesCode : List ℕ → Refused → Type 0
-RefusesCode input NoMemory = ⊤
-RefusesCode input (TextFault line code) = ⊥
-RefusesCode input (BadSecond line) = IsBadCodeRun input line
+RefusesCode input refused = RefusesRun (first_part input) (second_part input) refused

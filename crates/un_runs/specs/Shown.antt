@@ -1,9 +1,9 @@
 -- What runs and seeds come to, as text.
 use Rattle.std.specs.Prelude.{ℕ, ◌≡◌, ◌%◌, ◌&&◌, Bool, true, nat_eq, nat_le, List, [], slice_index}
-use Rattle.un_isa.specs.Hexagon.{HEXAGON}
 use Rattle.un_isa.specs.declared.outcome.Outcome.{Outcome}
 use Rattle.un_isa.specs.declared.reg.TheConstants.{STACK}
 use Rattle.un_isa.specs.declared.start.Start.{Start}
+use Rattle.un_isa.specs.declared.table.Table.{Table}
 use Rattle.un_ir.specs.declared.function.Function.{Function}
 use Rattle.un_ir.specs.Text.{function_text}
 use Rattle.un_gen.specs.Generated.{IsGenerated}
@@ -36,21 +36,25 @@ pub record IsSourceRun (input out : List ℕ) : Type 0 where
 abbrev pub has_room : ℕ → List ℕ → Bool
 has_room frame regs = nat_eq (slice_index regs STACK % 8) 0 && nat_le frame (slice_index regs STACK)
 
--- the outcome of code from the start of a text, which has room for the code's frame
-pub record IsRunOfCode (c : Code) (text out : List ℕ) : Type 0 where
+-- the outcome of code, by a table of the processor, from the start of a text, which has room for the code's frame
+pub record IsRunOfCode (t : Table) (c : Code) (text out : List ℕ) : Type 0 where
   pub start : Start
   pub count : ℕ
   pub started : IsStartText text start count
   pub room : has_room c.frame start.regs ≡ true
   pub outcome : Outcome
-  pub is : IsOutcome c.blocks (packet_run HEXAGON c start count) outcome
+  pub is : IsOutcome c.blocks (packet_run t c start count) outcome
   pub printed : out ≡ outcome_text [] outcome
 
--- the same of the code whose listing is the first part of an input
-pub record IsCodeRun (input out : List ℕ) : Type 0 where
+-- the same of the code of a listing
+pub record IsRunOfListing (t : Table) (listing text out : List ℕ) : Type 0 where
   pub code : Code
-  pub listed : IsListingOf (first_part input) code
-  pub run : IsRunOfCode code (second_part input) out
+  pub listed : IsListingOf listing code
+  pub run : IsRunOfCode t code text out
+
+-- of that in the first part of an input, from the start in the second one
+abbrev pub IsCodeRun : Table → List ℕ → List ℕ → Type 0
+IsCodeRun t input out = IsRunOfListing t (first_part input) (second_part input) out
 
 -- the text of the function that a seed and a size generate
 pub record IsGeneratedText (seed size : ℕ) (out : List ℕ) : Type 0 where

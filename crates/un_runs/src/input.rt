@@ -1,7 +1,7 @@
 //! The parts of an input.
 
 ghost use Rattle.std.specs.Prelude.{◌≡◌};
-ghost use Rattle.un_runs.specs.Inputs.{is_rule, first_part, second_part};
+ghost use Rattle.un_runs.specs.Inputs.{is_rule, first_part, second_part, middle_part, last_part};
 
 use un_words::pieces::first_len;
 
@@ -12,6 +12,17 @@ pub struct Parts<'a> {
     pub first: &'a [u8],
     /// What stands behind that line; nothing where there is none.
     pub second: &'a [u8],
+}
+
+/// The three parts of an input, which the first two lines `---` part.
+#[derive(Clone, Copy)]
+pub struct ThreeParts<'a> {
+    /// What stands before the first such line; the whole input where there is none.
+    pub first: &'a [u8],
+    /// What stands between it and the second; all behind it where there is no second, and nothing where there is no first.
+    pub middle: &'a [u8],
+    /// What stands behind the second; nothing where there is none.
+    pub last: &'a [u8],
 }
 
 /// Whether a line, with its line feed, parts an input.
@@ -40,5 +51,20 @@ pub fn split(input: &[u8]) -> Parts<'_>
     Parts {
         first: input,
         second: rest,
+    }
+}
+
+/// The three parts of an input. It takes no memory.
+pub fn split_three(input: &[u8]) -> ThreeParts<'_>
+    ensures first { result.first.now ≡ first_part input.now }
+    ensures middle { result.middle.now ≡ middle_part input.now }
+    ensures last { result.last.now ≡ last_part input.now }
+{
+    let outer = split(input);
+    let inner = split(outer.second);
+    ThreeParts {
+        first: outer.first,
+        middle: inner.first,
+        last: inner.second,
     }
 }

@@ -4,12 +4,14 @@ ghost use Rattle.std.specs.Prelude.{◌≡◌, ◌<◌, ◌≤◌, ◌^◌, true
 ghost use Rattle.std.specs.List.{concat};
 ghost use Rattle.un_base.specs.Lines.{is_line_feed, pieces_of};
 ghost use Rattle.un_ir.specs.declared.function.TheConstants.{BLOCKS};
+ghost use Rattle.un_isa.specs.Fit.{IsFit};
+ghost use Rattle.un_isa.specs.Hexagon.{HEXAGON};
 ghost use Rattle.un_listing_reader.specs.Reading.{IsListingOf};
 ghost use Rattle.un_reader.specs.Read.{IsRead};
 ghost use Rattle.un_start.specs.StartTexts.{IsStartText, IsFirstBad};
 ghost use Rattle.un_runs.specs.declared.refused.Refused.TheVariants as Refused;
-ghost use Rattle.un_runs.specs.Refusals.{RefusesFunction, RefusesStart, RefusesListing, IsTight, RefusesFor, RefusesSource, RefusesCode};
-ghost use Rattle.un_runs.specs.Shown.{has_room, IsRunOf, IsSourceRun, IsRunOfCode, IsCodeRun, IsGeneratedText};
+ghost use Rattle.un_runs.specs.Refusals.{RefusesFunction, RefusesStart, RefusesListing, IsTight, RefusesFor, RefusesSource, RefusesRun, RefusesCode};
+ghost use Rattle.un_runs.specs.Shown.{has_room, IsRunOf, IsSourceRun, IsRunOfCode, IsRunOfListing, IsCodeRun, IsGeneratedText};
 
 use crate::input::split;
 use crate::refused::{Refused, function_refused, listing_refused, start_refused};
@@ -21,7 +23,7 @@ use un_ir::function::{BLOCKS, Function};
 use un_ir::print::print_function;
 use un_isa::reg::{REGISTERS, STACK};
 use un_isa::start::Start;
-use un_isa::table::hexagon;
+use un_isa::table::{Table, hexagon};
 use un_listing_reader::read::read_code;
 use un_outcome::print::print_outcome;
 use un_packet::code::Code;
@@ -175,29 +177,49 @@ fn roomy_start(alloc: Global, frame: u32, text: &[u8]) -> Result<(Start, u32), R
     }
 }
 
-/// What code comes to from the start of a text.
-fn code_run_of(alloc: Global, code: &Code, text: &[u8]) -> Result<Vec<u8>, Refused>
-    ensures ok { IfOk result (λ out. IsRunOfCode code.now text.now out.items) }
+/// What code comes to by a table of the processor from the start of a text.
+fn code_run_of(alloc: Global, t: &Table, code: &Code, text: &[u8]) -> Result<Vec<u8>, Refused>
+    requires fit { IsFit t.now }
+    ensures ok { IfOk result (λ out. IsRunOfCode t.now code.now text.now out.items) }
     ensures refused { IfErr result (RefusesFor code.now.frame text.now) }
 {
     let (start, count) = roomy_start(alloc, code.frame, text)?;
-    let outcome = run_packets(alloc, code, &hexagon(), &start, count)?;
+    let outcome = run_packets(alloc, code, t, &start, count)?;
     let out = print_outcome(alloc, &[], &outcome)?;
     Ok(out)
 }
 
-/// What the code whose listing is the first part of an input comes to from the start in the second one.
+/// What the code of a listing comes to by a table of the processor from the start of a text.
 ///
 /// # Errors
 /// `BadSecond` with the first bad line of the listing, counted there, else with that of the start, whose last line is bad where the stack
-/// pointer is no multiple of 8 or has no room for the code's frame, also where more lines stand behind it; `NoMemory` where there is no memory for the run.
+/// pointer is no multiple of 8 or has no room for the code's frame, also where more lines stand behind it; `NoMemory` where there is no
+/// memory for the run.
+pub fn code_run_by(
+    alloc: Global,
+    t: &Table,
+    listing: &[u8],
+    text: &[u8],
+) -> Result<Vec<u8>, Refused>
+    requires fit { IsFit t.now }
+    ensures ok { IfOk result (λ out. IsRunOfListing t.now listing.now text.now out.items) }
+    ensures refused { IfErr result (RefusesRun listing.now text.now) }
+{
+    let code = code_of(alloc, listing)?;
+    let out = code_run_of(alloc, t, &code, text)?;
+    Ok(out)
+}
+
+/// What the code whose listing is the first part of an input comes to from the start in the second one, by the machine's table.
+///
+/// # Errors
+/// Those of `code_run_by` for the two parts.
 pub fn code_run(alloc: Global, input: &[u8]) -> Result<Vec<u8>, Refused>
-    ensures ok { IfOk result (λ out. IsCodeRun input.now out.items) }
+    ensures ok { IfOk result (λ out. IsCodeRun HEXAGON input.now out.items) }
     ensures refused { IfErr result (RefusesCode input.now) }
 {
     let parts = split(input);
-    let code = code_of(alloc, parts.first)?;
-    let out = code_run_of(alloc, &code, parts.second)?;
+    let out = code_run_by(alloc, &hexagon(), parts.first, parts.second)?;
     Ok(out)
 }
 

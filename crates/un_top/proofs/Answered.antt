@@ -10,7 +10,7 @@ use Rattle.std.specs.Result.{IfErr, IfOk, OnErr, OnOk}
 use Rattle.un_outside.specs.Causes.{AppendsPrefix}
 use Rattle.un_outside.specs.declared.status.Status.{Status}
 use Rattle.un_outside.specs.declared.status.Status.TheVariants.{Done, Infeasible, Spent, TextFault, Usage, ReadFault, WriteFault, NoMemory, No}
-use Rattle.un_outside.specs.declared.status.Status.TheVariants.{BadReport}
+use Rattle.un_outside.specs.declared.status.Status.TheVariants.{BadReport, BadTable}
 use Rattle.un_commands.proofs.CommandLaws.{one_command}
 use Rattle.un_commands.proofs.WordLaws.{command_is_good}
 use Rattle.un_commands.specs.Commands.{IsCommand}
@@ -66,6 +66,7 @@ refuses_told told b laws text before now WriteFault is h = late_told told b laws
 refuses_told told b laws text before now NoMemory is h = tt
 refuses_told told b laws text before now (No cause) is h = late_told told b laws text (No cause) is h
 refuses_told told b laws text before now (BadReport l) is h = late_told told b laws text (BadReport l) is h
+refuses_told told b laws text before now (BadTable c) is h = late_told told b laws text (BadTable c) is h
 
 pub refused_told : (told : Option (List ℕ)) (command : ReadingCommand) (text items : List ℕ) (before now : ℕ) (outcome : Result Output Status)
     → text ≡ items → IfSome told (λ (bs : List ℕ). items ≡ bs) → IfErr outcome (RefusesText (behaviour_of command) text)
@@ -136,6 +137,7 @@ refuses_by words command told before now WriteFault asked h = late_by words comm
 refuses_by words command told before now NoMemory asked h = tt
 refuses_by words command told before now (No cause) asked h = late_by words command told (No cause) asked h
 refuses_by words command told before now (BadReport l) asked h = late_by words command told (BadReport l) asked h
+refuses_by words command told before now (BadTable c) asked h = late_by words command told (BadTable c) asked h
 
 pub refused_by : (words : List (List ℕ)) (command : ReadingCommand) (told : Option (List ℕ)) (before now : ℕ) (outcome : Result Output Status)
     → IsCommand words (Reads command) → IfErr outcome (Refuses (behaviour_of command) told before now)
@@ -218,6 +220,7 @@ is_refusal words told before now WriteFault h = h.0
 is_refusal words told before now NoMemory h = tt
 is_refusal words told before now (No cause) h = h.0
 is_refusal words told before now (BadReport l) h = h.0
+is_refusal words told before now (BadTable c) h = h.0
 
 pub only_of : (words : List (List ℕ)) (told : Option (List ℕ)) (before now : ℕ) (outcome : Result Output Status)
     → IfErr outcome (RefusesWords words told before now) → IfErr outcome IsRefusal
@@ -300,6 +303,7 @@ refused_fault words text line code before now WriteFault r h = absurd (late_faul
 refused_fault words text line code before now NoMemory r h = tt
 refused_fault words text line code before now (No cause) r h = absurd (late_fault words text (No cause) line code r.1 h)
 refused_fault words text line code before now (BadReport l) r h = absurd (late_fault words text (BadReport l) line code r.1 h)
+refused_fault words text line code before now (BadTable c) r h = absurd (late_fault words text (BadTable c) line code r.1 h)
 
 -- a run that wrote, or refused before it, answers the input's fault
 pub answers_fault : (words : List (List ℕ)) (told : Option (List ℕ)) (before now : ℕ) (outcome : Result Output Status) (status : Status)
@@ -326,6 +330,7 @@ refused_late words text before now WriteFault late r h = one_late_of words text 
 refused_late words text before now NoMemory late r h = tt
 refused_late words text before now (No cause) late r h = one_late_of words text (No cause) late r.1 h
 refused_late words text before now (BadReport l) late r h = one_late_of words text (BadReport l) late r.1 h
+refused_late words text before now (BadTable c) late r h = one_late_of words text (BadTable c) late r.1 h
 
 -- a run that wrote, or refused before it, answers the input's late answer
 pub answers_late : (words : List (List ℕ)) (told : Option (List ℕ)) (before now : ℕ) (outcome : Result Output Status) (status : Status)
@@ -352,6 +357,7 @@ late_refusal words told before now WriteFault late r = absurd late
 late_refusal words told before now NoMemory late r = absurd late
 late_refusal words told before now (No cause) late r = absurd late
 late_refusal words told before now (BadReport l) late r = r.1
+late_refusal words told before now (BadTable c) late r = r.1
 
 not_late : (s : Status) → IsWritten s → IsLate s → ⊥
 not_late Done w late = late
@@ -364,6 +370,7 @@ not_late WriteFault w late = late
 not_late NoMemory w late = late
 not_late (No cause) w late = late
 not_late (BadReport l) w late = w
+not_late (BadTable c) w late = w
 
 pub late_is : (words : List (List ℕ)) (told : Option (List ℕ)) (before now : ℕ) (outcome : Result Output Status) (status : Status)
     (old new : Option (List ℕ)) → IfErr outcome (RefusesWords words told before now) → IfErr outcome (λ e. status ≡ e)
@@ -390,6 +397,7 @@ accepted_by words text command WriteFault asked good told = tt
 accepted_by words text command NoMemory asked good told = tt
 accepted_by words text command (No cause) asked good told = tt
 accepted_by words text command (BadReport l) asked good told = tt
+accepted_by words text command (BadTable c) asked good told = tt
 
 pub answers_accepted : (words : List (List ℕ)) (told : Option (List ℕ)) (status : Status)
     → ((line code : ℕ) → status ≡ TextFault line code → IfSome told (λ (text : List ℕ). IsFaultOf words text line code))
@@ -411,6 +419,7 @@ refused_out WriteFault words text old new r k = absurd r
 refused_out NoMemory words text old new r k = k
 refused_out (No cause) words text old new r k = absurd r
 refused_out (BadReport l) words text old new r k = k
+refused_out (BadTable c) words text old new r k = k
 
 -- what `out` holds after an output was written whole
 whole_out : (words : List (List ℕ)) (text out : List ℕ) (old new : Option (List ℕ)) (s : Status) → IsWritten s → IsOutputOf words text s out
@@ -425,6 +434,7 @@ whole_out words text out old new WriteFault w o a = absurd w
 whole_out words text out old new NoMemory w o a = absurd w
 whole_out words text out old new (No cause) w o a = (out, o, a)
 whole_out words text out old new (BadReport l) w o a = absurd w
+whole_out words text out old new (BadTable c) w o a = absurd w
 
 -- what `out` holds after a run that wrote, or refused before it
 pub out_after : (words : List (List ℕ)) (told : Option (List ℕ)) (outcome : Result Output Status) (status : Status)
@@ -452,6 +462,7 @@ written_keeps WriteFault old new w = absurd w
 written_keeps NoMemory old new w = absurd w
 written_keeps (No cause) old new w = tt
 written_keeps (BadReport l) old new w = absurd w
+written_keeps (BadTable c) old new w = absurd w
 
 -- a refusal before writing keeps `out`, and writes nothing
 refused_keeps : (s : Status) (old new : Option (List ℕ)) → IsRefusal s → new ≡ old → KeepsOut s old new × (IsWritten s → ⊥)
@@ -465,6 +476,7 @@ refused_keeps WriteFault old new r k = absurd r
 refused_keeps NoMemory old new r k = (k, λ w. w)
 refused_keeps (No cause) old new r k = absurd r
 refused_keeps (BadReport l) old new r k = (k, λ w. w)
+refused_keeps (BadTable c) old new r k = (k, λ w. w)
 
 pub kept_and_answered : (words : List (List ℕ)) (outcome : Result Output Status) (status : Status) (old new : Option (List ℕ))
     → IfErr outcome IsRefusal → IfErr outcome (λ e. status ≡ e) → OnErr outcome (new ≡ old)
@@ -491,6 +503,7 @@ not_written WriteFault r w = w
 not_written NoMemory r w = w
 not_written (No cause) r w = r
 not_written (BadReport l) r w = w
+not_written (BadTable c) r w = w
 
 -- what holds of an output, and of a refusal for a later part of an input, holds of an answer that comes of a whole input
 pub when_whole : {T : Type 0} (outcome : Result T Status) (status : Status) (P : Type 0) → IfErr outcome IsRefusal

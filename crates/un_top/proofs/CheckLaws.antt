@@ -5,12 +5,12 @@ use Rattle.std.specs.declared.alloc.Global.{Global}
 use Rattle.std.specs.declared.result.Result.{Result}
 use Rattle.std.specs.declared.result.Result.TheVariants.{Ok, Err}
 use Rattle.un_base.specs.declared.memory_error.NoMemory.{NoMemory}
-use Rattle.un_isa.proofs.HexagonTable.{version_fit}
-use Rattle.un_isa.specs.Versions.{table_of}
+use Rattle.un_isa.specs.Fit.{IsFit}
+use Rattle.un_isa.specs.declared.table.Table.{Table}
 use Rattle.un_ir.specs.declared.function.Function.{Function}
 use Rattle.un_model.specs.Options.{AreOptions}
 use Rattle.un_model.specs.declared.model.Model.{Model}
-use Rattle.un_problem.specs.Problems.{IsModelOf, IsProblemOf}
+use Rattle.un_problem.specs.Problems.{IsModelOf}
 use Rattle.un_problem.proofs.ProblemLaws.{problem}
 use Rattle.un_outside.specs.declared.status.NoCause.{NoCause}
 use Rattle.un_report.specs.Views.{IsViewOf}
@@ -64,40 +64,33 @@ view_lines text v h = let lines = h.is_view.tree in
     record { nodes = lines.nodes; fit = lines.are.1; spelled = lines.spelled; counted = sym lines.are.0 }
 
 -- a sound answer is one for each model of the function, which are one
-sound_by : (f : Function) (r : Report) (m : Model) → IsSound (table_of r.version) f r
-    → IsModelOf (table_of r.version) f r.options m → IsSoundAnswer m r.tree.nodes.items r.answer
-sound_by f r m h is =
-    subst (λ (n : Model). IsSoundAnswer n r.tree.nodes.items r.answer)
-    (model_one (table_of r.version) f r.options h.model m h.is_model is) h.sound.answer
-
-problem_by : (f : Function) (r : Report) (m : Model) → AreOptions r.options → IsModelOf (table_of r.version) f r.options m
-    → IsProblemOf f m
-problem_by f r m options is = problem (table_of r.version) f r.options m (version_fit r.version) options is
+sound_by : (t : Table) (f : Function) (r : Report) (m : Model) → IsSound t f r → IsModelOf t f r.options m
+    → IsSoundAnswer m r.tree.nodes.items r.answer
+sound_by t f r m h is =
+    subst (λ (n : Model). IsSoundAnswer n r.tree.nodes.items r.answer) (model_one t f r.options h.model m h.is_model is) h.sound.answer
 
 -- so its code does what the function does, for its cost
-code_by : (f : Function) (r : Report) (told : Result (Unit {0}) NoCause) → AreOptions r.options
-    → OnOk told (IsSound (table_of r.version) f r)
-    → OnOk told ((m : Model) → IsModelOf (table_of r.version) f r.options m → HasCodeFor f m r.answer)
-code_by f r (Err cause) options sound = tt
-code_by f r (Ok all) options sound = λ m is.
-    sound_codes f m r.tree.nodes.items r.answer (problem_by f r m options is) (sound_by f r m sound is)
+code_by : (t : Table) (f : Function) (r : Report) (told : Result (Unit {0}) NoCause) → IsFit t → AreOptions r.options
+    → OnOk told (IsSound t f r) → OnOk told ((m : Model) → IsModelOf t f r.options m → HasCodeFor f m r.answer)
+code_by t f r (Err cause) fit options sound = tt
+code_by t f r (Ok all) fit options sound = λ m is.
+    sound_codes f m r.tree.nodes.items r.answer (problem t f r.options m fit options is) (sound_by t f r m sound is)
 
 -- and no solution costs less than its bound
-bounds_by : (f : Function) (r : Report) (told : Result (Unit {0}) NoCause) → AreOptions r.options
-    → OnOk told (IsSound (table_of r.version) f r)
-    → OnOk told ((m : Model) → IsModelOf (table_of r.version) f r.options m → BoundsAll m r.answer)
-bounds_by f r (Err cause) options sound = tt
-bounds_by f r (Ok all) options sound = λ m is.
-    sound_bounds f m r.tree.nodes.items r.answer (problem_by f r m options is) (sound_by f r m sound is)
+bounds_by : (t : Table) (f : Function) (r : Report) (told : Result (Unit {0}) NoCause) → IsFit t → AreOptions r.options
+    → OnOk told (IsSound t f r) → OnOk told ((m : Model) → IsModelOf t f r.options m → BoundsAll m r.answer)
+bounds_by t f r (Err cause) fit options sound = tt
+bounds_by t f r (Ok all) fit options sound = λ m is.
+    sound_bounds f m r.tree.nodes.items r.answer (problem t f r.options m fit options is) (sound_by t f r m sound is)
 
-pub answered : (g : Global) (f : Function) (text : List ℕ) (v : ReportView) (result : Result (Result (Unit {0}) NoCause) NoMemory)
-    → IsViewRead text v
+pub answered : (by : ℕ → Table) (g : Global) (f : Function) (text : List ℕ) (v : ReportView) (result : Result (Result (Unit {0}) NoCause) NoMemory)
+    → IsFit (by v.version) → IsViewRead text v
     → ((nodes : List Node) → All Fits nodes → v.tree.now ≡ tree_text nodes
-    → IfOk result (IsTold (table_of v.version) f v.options (claim_with v nodes)))
-    → ((r : Report) → IsViewOf r v → All Fits r.tree.nodes.items → IfOk result (λ told. OnOk told (IsSound (table_of v.version) f r)))
-    → IfOk result (IsAnswered f text v.answer)
-answered g f text v (Err e) h told sound = tt
-answered g f text v (Ok answer) h told sound =
+    → IfOk result (IsTold (by v.version) f v.options (claim_with v nodes)))
+    → ((r : Report) → IsViewOf r v → All Fits r.tree.nodes.items → IfOk result (λ told. OnOk told (IsSound (by v.version) f r)))
+    → IfOk result (IsAnswered by f text v.answer)
+answered by g f text v (Err e) fit h told sound = tt
+answered by g f text v (Ok answer) fit h told sound =
     let r : Report = report_of g v h.is_view in
     let made = report_made v r h.is_view refl refl refl refl refl refl in
     let lines = h.is_view.tree in
@@ -109,8 +102,8 @@ answered g f text v (Ok answer) h told sound =
       answer = refl;
       told = told lines.nodes lines.are.1 lines.spelled;
       sound = is_sound;
-      code = code_by f r answer options is_sound;
-      bounds = bounds_by f r answer options is_sound;
+      code = code_by (by v.version) f r answer fit options is_sound;
+      bounds = bounds_by (by v.version) f r answer fit options is_sound;
     }
 
 -- ---- parts of an input

@@ -1,5 +1,5 @@
 -- The report of a generated function.
-use Rattle.std.proofs.Common.{ℕ, ◌≡◌, ◌≤◌, List, refl, subst, sym, ap, ◌∙◌}
+use Rattle.std.proofs.Common.{ℕ, ◌≡◌, List, refl, subst, sym, ap, ◌∙◌}
 use Rattle.un_outside.specs.declared.status.Status.{Status}
 use Rattle.un_outside.specs.declared.status.Status.TheVariants.{Done}
 use Rattle.un_isa.specs.Versions.{table_of}
@@ -8,7 +8,6 @@ use Rattle.un_isa.specs.declared.table.Table.{Table}
 use Rattle.un_ir.specs.ExtendOf.{extend_of}
 use Rattle.un_ir.specs.LinearOf.{lin_of}
 use Rattle.un_ir.specs.declared.function.Function.{Function}
-use Rattle.un_base.specs.declared.ids.NameId.{NameId}
 use Rattle.un_gen.specs.Generated.{IsGenerated}
 use Rattle.un_model.specs.declared.model.Model.{Model}
 use Rattle.un_model.specs.declared.model.Options.{Options}
@@ -18,7 +17,7 @@ use Rattle.un_baseline.specs.SpilledCost.{spill_cost}
 use Rattle.un_baseline.proofs.Spillable.{default_roomy}
 use Rattle.un_report.specs.declared.report.Answered.{Answered}
 use Rattle.un_report.specs.declared.report.Answered.TheVariants.{Code, Infeasible, Spent}
-use Rattle.un_top.specs.Reports.{IsCodeWithin, UsesRoom, status_of}
+use Rattle.un_top.specs.Reports.{IsCodeWithin, status_of}
 use Rattle.un_top.specs.Generated.{IsSummedUp, IsGeneratedReport}
 
 -- a run that writes code ends well

@@ -1,17 +1,19 @@
 -- What is so of every command's behaviour: a text has one fault at most, and with it nothing else; one late answer at most, and with it no
 -- output; a good text has neither; and an output ends a run as it should.
-use Rattle.std.proofs.Common.{ℕ, ◌≡◌, ◌<◌, ◌≤◌, inl, inr, List, length, refl, subst, sym, ap, ◌∙◌, arith}
+use Rattle.std.proofs.Common.{ℕ, ◌≡◌, ◌<◌, ◌≤◌, ◌⊎◌, inl, inr, List, length, refl, subst, sym, ap, ◌∙◌, arith}
 use Rattle.std.specs.declared.result.Result.{Result}
 use Rattle.std.specs.declared.result.Result.TheVariants.{Ok, Err}
 use Rattle.un_baseline.specs.RoomyOptions.{AreRoomyFor}
 use Rattle.un_baseline.specs.SpilledCost.{spill_cost}
 use Rattle.un_commands.specs.Alloc.{model_options}
 use Rattle.un_commands.specs.declared.command.ReadingCommand.{ReadingCommand}
-use Rattle.un_commands.specs.declared.command.ReadingCommand.TheVariants.{Alloc, Run, RunCode, Check, Improve}
+use Rattle.un_commands.specs.declared.command.ReadingCommand.TheVariants.{Alloc, Run, RunCode, Check, Improve, AllocTable, CheckTable, RunCodeTable}
 use Rattle.un_commands.specs.declared.command.SearchOptions.{SearchOptions}
 use Rattle.un_faults.specs.declared.fault.Fault.TheVariants.{TooMany}
 use Rattle.un_ir.specs.declared.function.Function.{Function}
+use Rattle.un_isa.specs.Hexagon.{HEXAGON}
 use Rattle.un_isa.specs.Versions.{table_of}
+use Rattle.un_isa.specs.declared.table.Table.{Table}
 use Rattle.un_isa.specs.declared.table.TheConstants.{LAST}
 use Rattle.un_model.specs.Cost.{cost_of}
 use Rattle.un_model.specs.declared.model.Model.{Model}
@@ -20,20 +22,23 @@ use Rattle.un_model.specs.declared.model.Solution.{Solution}
 use Rattle.un_outside.specs.declared.status.NoCause.{NoCause}
 use Rattle.un_outside.specs.declared.status.Status.{Status}
 use Rattle.un_outside.specs.declared.status.Status.TheVariants.{Done, Infeasible, Spent, TextFault, Usage, ReadFault, WriteFault, NoMemory, No}
-use Rattle.un_outside.specs.declared.status.Status.TheVariants.{BadReport}
+use Rattle.un_outside.specs.declared.status.Status.TheVariants.{BadReport, BadTable}
 use Rattle.un_reader.specs.Read.{IsRead, too_long}
 use Rattle.un_report.specs.declared.report.Answered.{Answered}
 use Rattle.un_report.specs.declared.report.Answered.TheVariants.{Code, Infeasible as NoSolution, Spent as Stopped}
 use Rattle.un_report_reader.proofs.Alone.{numbers_not_bad}
-use Rattle.un_runs.proofs.OneAnswer.{one_source_line, one_code_line, good_source, good_code, source_run_good, code_run_good}
-use Rattle.un_runs.specs.Inputs.{first_part, second_part}
+use Rattle.un_runs.proofs.OneAnswer.{one_source_line, one_run_line, one_code_line, good_source, good_texts, good_code, source_run_good, run_good, code_run_good}
+use Rattle.un_runs.specs.Inputs.{first_part, second_part, middle_part, last_part}
 use Rattle.un_runs.specs.Refusals.{IsBadSourceRun, IsBadCodeRun}
-use Rattle.un_top.specs.Behaviours.{Behaviour, behaviour_of, of_alloc, of_run, of_run_code, of_check, of_improve, IsBadPart, IsPartFault, IsDone, IsSearched}
+use Rattle.un_target.proofs.TableLaws.{one_cause, not_both}
+use Rattle.un_target.specs.Causes.{code_of}
+use Rattle.un_top.specs.Behaviours.{Behaviour, behaviour_of, of_alloc, of_run, of_run_code, of_check, of_improve, of_alloc_table, of_check_table, of_run_code_table, IsBadPart, IsPartFault, IsDone, IsSearched}
 use Rattle.un_top.specs.Behaviours.{IsChecked, EndsSearch, EndsCheck, EndsImprove}
 use Rattle.un_top.specs.Checks.{IsBadCheck, told_status}
 use Rattle.un_top.specs.Improvements.{IsAnswerTo, IsBadNumbers}
 use Rattle.un_top.specs.Reports.{IsReportOf, status_of}
 use Rattle.un_top.specs.Runs.{IsLate}
+use Rattle.un_top.specs.Tables.{IsGoodTable, IsCodeOf, IsLateBy}
 use Rattle.un_top.specs.declared.limits.TheConstants.{INPUT}
 use Rattle.un_top.proofs.FaultLaws.{fault_unique, read_has_no_fault}
 use Rattle.un_top.proofs.GeneratedLaws.{code_done}
@@ -80,6 +85,7 @@ bad_line bad text ReadFault h = absurd h
 bad_line bad text WriteFault h = absurd h
 bad_line bad text NoMemory h = absurd h
 bad_line bad text (No cause) h = absurd h
+bad_line bad text (BadTable code) h = absurd h
 
 part_late : (bad : List ℕ → ℕ → Type 0) (text : List ℕ) (status : Status) → IsBadPart bad text status → IsLate status
 part_late bad text status h = let at = bad_line bad text status h in subst IsLate (sym at.1) tt
@@ -104,10 +110,10 @@ ends_searched status (inr (inl e)) = subst IsSearched (sym e) tt
 ends_searched status (inr (inr e)) = subst IsSearched (sym e) tt
 
 -- where each name can be kept in a frame slot of its own there is code
-roomy_done : (o : Options) (nodes : ℕ) (text : List ℕ) (status : Status) (out : List ℕ)
-    → IsReportOf (table_of LAST) o nodes text status out
+roomy_done : (t : Table) (o : Options) (nodes : ℕ) (text : List ℕ) (status : Status) (out : List ℕ)
+    → IsReportOf t o nodes text status out
     → ((f : Function) → IsRead text f → AreRoomyFor f o) → IsDone status
-roomy_done o nodes text status out h roomy =
+roomy_done t o nodes text status out h roomy =
     let f = h.function in
     let m = h.model in
     let options : m.options ≡ o = ap (λ (x : Model). x.options) h.is_model.is_model in
@@ -129,7 +135,7 @@ alloc_lawful o = record {
   ends = λ text status out h. search_ends status h.found.report.answer h.found.ends;
   well = λ text status out h. (
     ends_searched status (search_ends status h.found.report.answer h.found.ends),
-    roomy_done (model_options o) o.nodes text status out h,
+    roomy_done (table_of LAST) (model_options o) o.nodes text status out h,
   );
   short = λ text. (tt, λ roomy. tt);
 }
@@ -172,7 +178,7 @@ run_code_lawful = record {
   is_late = part_late IsBadCodeRun;
   one_late = one_part IsBadCodeRun one_code_line;
   output_late = λ text status out late h l. (let at = bad_line IsBadCodeRun text late l in
-      good_code text at.0 (code_run_good text out h.2) at.3);
+      good_code text at.0 (code_run_good HEXAGON text out h.2) at.3);
   good_late = λ text late good l. (let at = bad_line IsBadCodeRun text late l in good_code text at.0 good.1 at.3);
   ends = λ text status out h. h.0;
   well = λ text status out h. done_well status h.0;
@@ -241,6 +247,128 @@ improve_lawful o = record {
   short = λ text. tt;
 }
 
+-- ---- the same by a table that is a part of the input
+
+-- a text is that of no table by one cause at most, and by none where it is that of one
+one_code : (text : List ℕ) (c d : ℕ) → IsCodeOf text c → IsCodeOf text d → c ≡ d
+one_code text c d h k = h.coded ∙ (ap code_of (one_cause text h.cause k.cause h.bad k.bad) ∙ sym k.coded)
+
+good_table : (text : List ℕ) (code : ℕ) → IsGoodTable text → IsCodeOf text code → ⊥
+good_table text code g h = not_both text g.table h.cause g.is_table h.bad
+
+-- what is refused is a table, or a line
+abbrev Cases : (ℕ → Type 0) → (ℕ → Type 0) → Status → Type 0
+Cases table line status = ((code : ℕ) × (status ≡ BadTable code) × table code) ⊎ ((n : ℕ) × (status ≡ BadReport n) × line n)
+
+late_cases : (table line : ℕ → Type 0) (status : Status) → IsLateBy table line status → Cases table line status
+late_cases table line (BadTable code) h = inl (code, refl, h)
+late_cases table line (BadReport n) h = inr (n, refl, h)
+late_cases table line Done h = absurd h
+late_cases table line Infeasible h = absurd h
+late_cases table line Spent h = absurd h
+late_cases table line (TextFault l c) h = absurd h
+late_cases table line (Usage place) h = absurd h
+late_cases table line ReadFault h = absurd h
+late_cases table line WriteFault h = absurd h
+late_cases table line NoMemory h = absurd h
+late_cases table line (No cause) h = absurd h
+
+-- so neither may be where both are impossible
+no_late : (table line : ℕ → Type 0) (status : Status) → ((code : ℕ) → table code → ⊥) → ((n : ℕ) → line n → ⊥) → IsLateBy table line status → ⊥
+no_late table line status a b h = by (late_cases table line status h)
+  where
+    by : Cases table line status → ⊥
+    by (inl at) = a at.0 at.2
+    by (inr at) = b at.0 at.2
+
+late_by : (table line : ℕ → Type 0) (status : Status) → IsLateBy table line status → IsLate status
+late_by table line status h = by (late_cases table line status h)
+  where
+    by : Cases table line status → IsLate status
+    by (inl at) = subst IsLate (sym at.1) tt
+    by (inr at) = subst IsLate (sym at.1) tt
+
+-- and it is one of them, where each is one and not both are
+one_late_by : (table line : ℕ → Type 0) (s t : Status) → ((c d : ℕ) → table c → table d → c ≡ d) → ((m n : ℕ) → line m → line n → m ≡ n)
+    → ((c n : ℕ) → table c → line n → ⊥) → IsLateBy table line s → IsLateBy table line t → s ≡ t
+one_late_by table line s t one_table one_line apart h k = by (late_cases table line s h) (late_cases table line t k)
+  where
+    by : Cases table line s → Cases table line t → s ≡ t
+    by (inl a) (inl b) = a.1 ∙ (ap BadTable (one_table a.0 b.0 a.2 b.2) ∙ sym b.1)
+    by (inl a) (inr b) = absurd (apart a.0 b.0 a.2 b.2)
+    by (inr a) (inl b) = absurd (apart b.0 a.0 b.2 a.2)
+    by (inr a) (inr b) = a.1 ∙ (ap BadReport (one_line a.0 b.0 a.2 b.2) ∙ sym b.1)
+
+alloc_table_lawful : (o : SearchOptions) → IsLawful (of_alloc_table o)
+alloc_table_lawful o = record {
+  too_long = λ text long. inl (record { long = long; no_line = refl; too_many = refl });
+  one_fault = part_fault;
+  output_fault = λ text status out line code h. read_part text h.1.report.function line code h.0 h.1.report.read;
+  late_fault = λ text status line code late f.
+      no_late _ _ status (λ c h. read_part text h.read.0 line code h.few h.read.1 f) (λ n h. h) late;
+  no_fault = λ text line code good. read_part text good.1.0 line code good.0 good.1.1;
+  good_fault = λ text line code good. read_part text good.1.function line code good.0 good.1.read;
+  is_late = λ text. late_by _ _;
+  one_late = λ text s t. one_late_by _ _ s t (λ c d h k. one_code (second_part text) c d h.refused k.refused) (λ m n h k. absurd h) (λ c n h k. k);
+  output_late = λ text status out late h l.
+      no_late _ _ late (λ c k. good_table (second_part text) c (record { table = h.1.table; is_table = h.1.is_table }) k.refused) (λ n k. k) l;
+  good_late = λ text late good l. no_late _ _ late (λ c k. good_table (second_part text) c good.1.table k.refused) (λ n k. k) l;
+  ends = λ text status out h. search_ends status h.1.report.found.report.answer h.1.report.found.ends;
+  well = λ text status out h. (
+    ends_searched status (search_ends status h.1.report.found.report.answer h.1.report.found.ends),
+    roomy_done h.1.table (model_options o) o.nodes (first_part text) status out h.1.report,
+  );
+  short = λ text. (tt, λ roomy. tt);
+}
+
+check_table_lawful : IsLawful of_check_table
+check_table_lawful = record {
+  too_long = λ text long. inl (record { long = long; no_line = refl; too_many = refl });
+  one_fault = part_fault;
+  output_fault = λ text status out line code h. read_part text h.1.function line code h.0 h.1.read;
+  late_fault = λ text status line code late f.
+      no_late _ _ status (λ c h. read_part text h.read.0 line code h.few h.read.1 f) (λ n h. read_part text h.read.0 line code h.few h.read.1 f) late;
+  no_fault = λ text line code good. read_part text good.1.0 line code good.0 good.1.1;
+  good_fault = λ text line code good. read_part text good.1.function line code good.0 good.1.read;
+  is_late = λ text. late_by _ _;
+  one_late = λ text s t. one_late_by _ _ s t (λ c d h k. one_code (middle_part text) c d h.refused k.refused)
+      (λ m n h k. one_report_line (last_part text) m n h.refused k.refused) (λ c n h k. good_table (middle_part text) c k.table h.refused);
+  output_late = λ text status out late h l. (let own = h.1.check.answered in
+      no_late _ _ late (λ c k. good_table (middle_part text) c (record { table = h.1.table; is_table = h.1.is_table }) k.refused)
+      (λ n k. report_not_bad (last_part text) own.report n own.reported k.refused) l);
+  good_late = λ text late good l.
+      no_late _ _ late (λ c k. good_table (middle_part text) c good.1.table k.refused)
+      (λ n k. report_not_bad (last_part text) good.1.report n good.1.reported k.refused) l;
+  ends = λ text status out h. check_ends status h.1.check.told h.1.check.ends;
+  well = λ text status out h. ends_checked status (check_ends status h.1.check.told h.1.check.ends);
+  short = λ text. tt;
+}
+
+run_code_table_lawful : IsLawful of_run_code_table
+run_code_table_lawful = record {
+  too_long = λ text long. record { long = long; no_line = refl; too_many = refl };
+  one_fault = λ text l c line code a b. (a.no_line ∙ sym b.no_line, a.too_many ∙ sym b.too_many);
+  output_fault = λ text status out line code h f. (let long = f.long in let short = h.1 in omega (arith, long, short));
+  late_fault = λ text status line code late f.
+      no_late _ _ status (λ c h. (let long = f.long in let short = h.few in omega (arith, long, short)))
+      (λ n h. (let long = f.long in let short = h.few in omega (arith, long, short))) late;
+  no_fault = λ text line code good f. (let long = f.long in omega (arith, long, good));
+  good_fault = λ text line code good f. (let long = f.long in let short = good.0 in omega (arith, long, short));
+  is_late = λ text. late_by _ _;
+  one_late = λ text s t. one_late_by _ _ s t (λ c d h k. one_code (middle_part text) c d h.refused k.refused)
+      (λ m n h k. one_run_line (first_part text) (last_part text) m n h.refused k.refused)
+      (λ c n h k. good_table (middle_part text) c k.table h.refused);
+  output_late = λ text status out late h l.
+      no_late _ _ late (λ c k. good_table (middle_part text) c (record { table = h.2.table; is_table = h.2.is_table }) k.refused)
+      (λ n k. good_texts (first_part text) (last_part text) n (run_good h.2.table (first_part text) (last_part text) out h.2.run) k.refused) l;
+  good_late = λ text late good l.
+      no_late _ _ late (λ c k. good_table (middle_part text) c good.1.0 k.refused)
+      (λ n k. good_texts (first_part text) (last_part text) n good.1.1 k.refused) l;
+  ends = λ text status out h. h.0;
+  well = λ text status out h. done_well status h.0;
+  short = λ text. tt;
+}
+
 -- ---- all commands over an input
 
 pub lawful : (command : ReadingCommand) → IsLawful (behaviour_of command)
@@ -249,3 +377,6 @@ lawful Run = run_lawful
 lawful RunCode = run_code_lawful
 lawful Check = check_lawful
 lawful (Improve o) = improve_lawful o
+lawful (AllocTable o) = alloc_table_lawful o
+lawful CheckTable = check_table_lawful
+lawful RunCodeTable = run_code_table_lawful

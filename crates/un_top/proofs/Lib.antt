@@ -12,4 +12,5 @@ pub mod Refused
 pub mod ReportLines
 pub mod Rows
 pub mod SearchLaws
+pub mod TableInputs
 pub mod Written

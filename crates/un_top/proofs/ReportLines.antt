@@ -9,7 +9,7 @@ use Rattle.un_listing_reader.proofs.CodeBack.{one_bad_within}
 use Rattle.un_report.specs.declared.report.TheConstants.{NUMBERS}
 use Rattle.un_report.specs.declared.report.Report.{Report}
 use Rattle.un_report.specs.Reports.{numbers_from, numbers_text}
-use Rattle.un_report_reader.specs.FirstBad.{IsBadBehind, InLine, BehindKind, InVersion, InFunction, InModel, InAnswer, InCost, InBound}
+use Rattle.un_report_reader.specs.FirstBad.{IsBadBehind, InLine, BehindKind, InFunction, InModel, InAnswer, InCost, InBound}
 use Rattle.un_report_reader.specs.FirstBad.{InListing, InCode, InSolution, InNumbers, InTree, InNodes, InEnd, InNothing, IsFirstBad}
 use Rattle.un_report_reader.specs.FirstBad.{InLastNumbers, IsFirstBadAlone}
 use Rattle.un_report_reader.specs.FirstBad.{IsBadCode, IsBadNumber, IsBadNode, first_lines, numbers_lines, lines_in_code}

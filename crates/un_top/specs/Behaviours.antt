@@ -7,9 +7,10 @@ use Rattle.un_commands.specs.declared.command.Command.TheVariants.{Reads, Makes}
 use Rattle.un_commands.specs.declared.command.MakingCommand.{MakingCommand}
 use Rattle.un_commands.specs.declared.command.MakingCommand.TheVariants.{Generate, GenerateAlloc}
 use Rattle.un_commands.specs.declared.command.ReadingCommand.{ReadingCommand}
-use Rattle.un_commands.specs.declared.command.ReadingCommand.TheVariants.{Alloc, Run, RunCode, Check, Improve}
+use Rattle.un_commands.specs.declared.command.ReadingCommand.TheVariants.{Alloc, Run, RunCode, Check, Improve, AllocTable, CheckTable, RunCodeTable}
 use Rattle.un_commands.specs.declared.command.SearchOptions.{SearchOptions}
 use Rattle.un_ir.specs.declared.function.Function.{Function}
+use Rattle.un_isa.specs.Hexagon.{HEXAGON}
 use Rattle.un_isa.specs.Versions.{table_of}
 use Rattle.un_isa.specs.declared.table.TheConstants.{LAST}
 use Rattle.un_outside.specs.declared.status.NoCause.{NoCause}
@@ -26,6 +27,8 @@ use Rattle.un_top.specs.Checks.{IsCheck, IsCheckInput, IsBadCheck}
 use Rattle.un_top.specs.Generated.{IsGeneratedReport}
 use Rattle.un_top.specs.Improvements.{IsImprovement, IsNumbersInput, IsBadNumbers}
 use Rattle.un_top.specs.Reports.{IsReportOf}
+use Rattle.un_top.specs.Tables.{IsTableReport, IsTableCheck, IsTableRun, IsFunctionTable, IsTableCheckInput, IsTableRunInput}
+use Rattle.un_top.specs.Tables.{IsLateReport, IsLateCheck, IsLateRun}
 use Rattle.un_top.specs.declared.limits.TheConstants.{INPUT}
 
 -- what a command does with an input
@@ -136,7 +139,7 @@ of_run = record {
 abbrev pub of_run_code : Behaviour
 of_run_code = record {
   most = INPUT;
-  Output = λ text status out. (status ≡ Done) × (length text ≤ INPUT) × IsCodeRun text out;
+  Output = λ text status out. (status ≡ Done) × (length text ≤ INPUT) × IsCodeRun HEXAGON text out;
   Ending = EndsDone;
   Fault = IsTooLong;
   Faultless = λ text. length text ≤ INPUT;
@@ -171,12 +174,54 @@ of_improve o = record {
   EndsWell = λ text status. IsChecked status;
 }
 
+-- ---- the same by a table that is a part of the input
+
+abbrev pub of_alloc_table : SearchOptions → Behaviour
+of_alloc_table o = record {
+  most = INPUT;
+  Output = λ text status out. (length text ≤ INPUT) × IsTableReport (model_options o) o.nodes text status out;
+  Ending = EndsSearch;
+  Fault = IsPartFault;
+  Faultless = HasNoPartFault;
+  Late = IsLateReport;
+  Good = λ text. (length text ≤ INPUT) × IsFunctionTable text;
+  EndsWell = λ text status. IsSearched status
+      × (((f : Function) → IsRead (first_part text) f → AreRoomyFor f (model_options o)) → IsDone status);
+}
+
+abbrev pub of_check_table : Behaviour
+of_check_table = record {
+  most = INPUT;
+  Output = λ text status out. (length text ≤ INPUT) × IsTableCheck text status out;
+  Ending = EndsCheck;
+  Fault = IsPartFault;
+  Faultless = HasNoPartFault;
+  Late = IsLateCheck;
+  Good = λ text. (length text ≤ INPUT) × IsTableCheckInput text;
+  EndsWell = λ text status. IsChecked status;
+}
+
+abbrev pub of_run_code_table : Behaviour
+of_run_code_table = record {
+  most = INPUT;
+  Output = λ text status out. (status ≡ Done) × (length text ≤ INPUT) × IsTableRun text out;
+  Ending = EndsDone;
+  Fault = IsTooLong;
+  Faultless = λ text. length text ≤ INPUT;
+  Late = IsLateRun;
+  Good = λ text. (length text ≤ INPUT) × IsTableRunInput text;
+  EndsWell = λ text status. IsDone status;
+}
+
 abbrev pub behaviour_of : ReadingCommand → Behaviour
 behaviour_of (Alloc o) = of_alloc o
 behaviour_of Run = of_run
 behaviour_of RunCode = of_run_code
 behaviour_of Check = of_check
 behaviour_of (Improve o) = of_improve o
+behaviour_of (AllocTable o) = of_alloc_table o
+behaviour_of CheckTable = of_check_table
+behaviour_of RunCodeTable = of_run_code_table
 
 -- ---- the commands without one
 

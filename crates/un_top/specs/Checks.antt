@@ -4,6 +4,7 @@ use Rattle.std.specs.declared.result.Result.{Result}
 use Rattle.std.specs.declared.result.Result.TheVariants.{Ok, Err}
 use Rattle.un_base.specs.Lines.{joined_lines}
 use Rattle.un_isa.specs.Versions.{table_of}
+use Rattle.un_isa.specs.declared.table.Table.{Table}
 use Rattle.un_ir.specs.declared.function.Function.{Function}
 use Rattle.un_model.specs.declared.model.Model.{Model}
 use Rattle.un_outside.specs.declared.status.Status.{Status}
@@ -66,24 +67,29 @@ told_status (Err cause) = No cause
 
 -- ---- over an input
 
--- the answer to the report that a text is, on a function, by the table of its version: what it claims is all right, or there is a first
--- cause. Where it is all right, the report is sound; and by the function's model its code does what the function does, for its cost, and no solution costs less than its bound
-pub record IsAnswered (f : Function) (text : List ℕ) (a : Answered) (result : Result (Unit {0}) NoCause) : Type 0 where
+-- the answer to the report that a text is, on a function, by the table that its version tells: what it claims is all right, or there is a
+-- first cause. Where it is all right, the report is sound; and by the function's model its code does what the function does, for its cost,
+-- and no solution costs less than its bound
+pub record IsAnswered (by : ℕ → Table) (f : Function) (text : List ℕ) (a : Answered) (result : Result (Unit {0}) NoCause) : Type 0 where
   pub report : Report
   pub reported : IsReportRead text report
   pub answer : report.answer ≡ a
-  pub told : IsTold (table_of report.version) f report.options (claim_of report) result
-  pub sound : OnOk result (IsSound (table_of report.version) f report)
-  pub code : OnOk result ((m : Model) → IsModelOf (table_of report.version) f report.options m → HasCodeFor f m report.answer)
-  pub bounds : OnOk result ((m : Model) → IsModelOf (table_of report.version) f report.options m → BoundsAll m report.answer)
+  pub told : IsTold (by report.version) f report.options (claim_of report) result
+  pub sound : OnOk result (IsSound (by report.version) f report)
+  pub code : OnOk result ((m : Model) → IsModelOf (by report.version) f report.options m → HasCodeFor f m report.answer)
+  pub bounds : OnOk result ((m : Model) → IsModelOf (by report.version) f report.options m → BoundsAll m report.answer)
 
 -- its line, and how a run ends that writes it
-pub record IsCheckOf (f : Function) (text : List ℕ) (status : Status) (out : List ℕ) : Type 0 where
+pub record IsCheckBy (by : ℕ → Table) (f : Function) (text : List ℕ) (status : Status) (out : List ℕ) : Type 0 where
   pub answer : Answered
   pub told : Result (Unit {0}) NoCause
-  pub answered : IsAnswered f text answer told
+  pub answered : IsAnswered by f text answer told
   pub ends : status ≡ told_status told
   pub printed : out ≡ told_line answer told
+
+-- by the tables of the versions
+abbrev pub IsCheckOf : Function → List ℕ → Status → List ℕ → Type 0
+IsCheckOf f text status out = IsCheckBy table_of f text status out
 
 -- the same of the function in the first part of an input and the report in the second one
 pub record IsCheck (input : List ℕ) (status : Status) (out : List ℕ) : Type 0 where

@@ -5,3 +5,4 @@ pub mod Improvements
 pub mod Reports
 pub mod Runs
 pub mod Searches
+pub mod Tables

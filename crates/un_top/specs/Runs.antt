@@ -12,7 +12,7 @@ use Rattle.un_commands.specs.declared.command.ReadingCommand.{ReadingCommand}
 use Rattle.un_outside.specs.Causes.{Rose, AppendsPrefix}
 use Rattle.un_outside.specs.declared.status.Status.{Status}
 use Rattle.un_outside.specs.declared.status.Status.TheVariants.{Done, Infeasible, Spent, TextFault, Usage, ReadFault, WriteFault, NoMemory, No}
-use Rattle.un_outside.specs.declared.status.Status.TheVariants.{BadReport}
+use Rattle.un_outside.specs.declared.status.Status.TheVariants.{BadReport, BadTable}
 use Rattle.un_runs.specs.declared.refused.Refused.{Refused}
 use Rattle.un_runs.specs.declared.refused.Refused.TheVariants as RefusedBy
 use Rattle.un_top.specs.Behaviours.{Behaviour, behaviour_of, IsOutput, Ends}
@@ -30,6 +30,7 @@ IsWritten _ = ⊥
 -- the answers that come of what a command reads behind its function
 abbrev pub IsLate : Status → Type 0
 IsLate (BadReport line) = Unit {0}
+IsLate (BadTable code) = Unit {0}
 IsLate _ = ⊥
 
 -- the answers that come of a whole input
@@ -172,6 +173,18 @@ fault_name code =
     if nat_eq code 13 then codes "TooMany" else
     if nat_eq code 14 then codes "BadFreq" else []
 
+-- the name of a cause why there is no table, and none for another number
+abbrev pub table_fault_name : ℕ → List ℕ
+table_fault_name code =
+    if nat_eq code 1 then codes "NotJson" else
+    if nat_eq code 2 then codes "BadShape" else
+    if nat_eq code 3 then codes "BadLatency" else
+    if nat_eq code 4 then codes "BadUse" else
+    if nat_eq code 5 then codes "BadSaved" else []
+
+abbrev pub table_line : ℕ → List ℕ
+table_line code = concat (codes "bad table: " ∷ decimal code ∷ codes " " ∷ table_fault_name code ∷ codes "\n" ∷ [])
+
 -- a text, a number and a line feed
 abbrev pub numbered : List ℕ → ℕ → List ℕ
 numbered before number = concat (before ∷ decimal number ∷ codes "\n" ∷ [])
@@ -192,3 +205,4 @@ line_of WriteFault = codes "write fault\n"
 line_of NoMemory = codes "no memory\n"
 line_of (No cause) = []
 line_of (BadReport line) = numbered (codes "bad report: line ") line
+line_of (BadTable code) = table_line code

@@ -3,16 +3,19 @@
 ghost use Rattle.std.specs.Prelude.{◌≡◌, ◌++◌, IfOk, IfErr, OnOk};
 ghost use Rattle.un_report_reader.specs.Readings.{IsViewRead};
 ghost use Rattle.un_top.specs.Checks.{yes_line, counted_line, no_line, told_line, told_status};
-ghost use Rattle.un_top.specs.Checks.{IsAnswered, IsCheckOf, IsCheck, RefusesReport, RefusesCheck};
+ghost use Rattle.un_isa.specs.Fit.{IsFit};
+ghost use Rattle.un_isa.specs.Versions.{table_of};
+ghost use Rattle.un_top.specs.Checks.{IsAnswered, IsCheckBy, IsCheckOf, IsCheck, RefusesReport, RefusesCheck};
 ghost use Rattle.un_top.specs.Runs.{IsWritten};
 
 use crate::output::Output;
 use crate::reading::{function_of, view_of};
 use std::alloc::Global;
 use un_base::memory_error::NoMemory;
-use un_check::report::check_view;
+use un_check::report::{check_table, check_view};
 use un_ir::function::Function;
 use un_ir::text::{put_number, put_text};
+use un_isa::table::Table;
 use un_outside::status::{NoCause, Status};
 use un_report::report::Answered;
 use un_report::view::ReportView;
@@ -98,10 +101,43 @@ fn answer_of(
     view: &ReportView<'_>,
 ) -> Result<Result<(), NoCause>, NoMemory>
     requires { IsViewRead text.now view.now }
-    ensures { IfOk result (IsAnswered f.now text.now view.now.answer) }
+    ensures { IfOk result (IsAnswered table_of f.now text.now view.now.answer) }
 {
     let _ = text;
     check_view(alloc, f, view)
+}
+
+/// The same by a table, whatever the version.
+fn answer_by(
+    alloc: Global,
+    f: &Function,
+    t: &Table,
+    text: &[u8],
+    view: &ReportView<'_>,
+) -> Result<Result<(), NoCause>, NoMemory>
+    requires fit { IsFit t.now }
+    requires view { IsViewRead text.now view.now }
+    ensures { IfOk result (IsAnswered (λ version. t.now) f.now text.now view.now.answer) }
+{
+    let _ = text;
+    check_table(alloc, f, view, t)
+}
+
+/// What is put out of an answer to a report.
+fn told_output(
+    alloc: Global,
+    answer: &Answered,
+    told: Result<(), NoCause>,
+) -> Result<Output, NoMemory>
+    ensures ends { IfOk result (λ out. out.status ≡ told_status told) }
+    ensures printed { IfOk result (λ out. out.text.items ≡ told_line answer.now told) }
+    ensures written { IfOk result (λ out. IsWritten out.status) }
+{
+    let text = told_text(alloc, answer, told)?;
+    Ok(Output {
+        text,
+        status: told_status(told),
+    })
 }
 
 /// The check of the report that a text is, on a function.
@@ -112,11 +148,26 @@ fn check_of(alloc: Global, f: &Function, text: &[u8]) -> Result<Output, Refused>
 {
     let view = view_of(alloc, text)?;
     let told = answer_of(alloc, f, text, &view)?;
-    let text = told_text(alloc, &view.answer, told)?;
-    Ok(Output {
-        text,
-        status: told_status(told),
-    })
+    let out = told_output(alloc, &view.answer, told)?;
+    Ok(out)
+}
+
+/// The check by a table of the report that a text is, on a function.
+pub(crate) fn check_by(
+    alloc: Global,
+    f: &Function,
+    t: &Table,
+    text: &[u8],
+) -> Result<Output, Refused>
+    requires fit { IsFit t.now }
+    ensures ok { IfOk result (λ out. IsCheckBy (λ version. t.now) f.now text.now out.status out.text.items) }
+    ensures written { IfOk result (λ out. IsWritten out.status) }
+    ensures refused { IfErr result (RefusesReport text.now) }
+{
+    let view = view_of(alloc, text)?;
+    let told = answer_by(alloc, f, t, text, &view)?;
+    let out = told_output(alloc, &view.answer, told)?;
+    Ok(out)
 }
 
 /// The check of the report in the second part of an input, on the function in the first one.

@@ -4,7 +4,7 @@ ghost use Rattle.std.specs.Prelude.{◌≡◌, ◌⊎◌, ◌++◌, ℕ, ◌<◌
 ghost use Rattle.std.specs.List.{concat};
 ghost use Rattle.std.specs.Io.KnownBytes.{Appends};
 ghost use Rattle.un_outside.specs.Causes.{Rose, AppendsPrefix};
-ghost use Rattle.un_top.specs.Runs.{fault_name, fault_line, numbered, line_of};
+ghost use Rattle.un_top.specs.Runs.{fault_name, fault_line, table_fault_name, table_line, numbered, line_of};
 
 use itoa::Buffer;
 use un_outside::outside::{Failed, Sink};
@@ -77,6 +77,32 @@ fn write_fault<K: Sink>(sink: &mut K, line: u32, code: u8) -> Result<(), Failed>
     )
 }
 
+/// The name of a cause why there is no table, and none for another number.
+fn table_fault_name(code: u8) -> &'static [u8]
+    ensures { result.now ≡ table_fault_name code }
+{
+    match code {
+        1 => b"NotJson",
+        2 => b"BadShape",
+        3 => b"BadLatency",
+        4 => b"BadUse",
+        5 => b"BadSaved",
+        _ => b"",
+    }
+}
+
+/// Writes the line for a table that is refused.
+fn write_table<K: Sink>(sink: &mut K, code: u8) -> Result<(), Failed>
+    ensures all { OnOk result (Appends (K.held sink.old) (K.held sink.new) (table_line code)) }
+    ensures failed { OnErr result (Rose (K.faults sink.old) (K.faults sink.new)) }
+    ensures prefix { OnErr result (AppendsPrefix (K.held sink.old) (K.held sink.new) (table_line code)) }
+{
+    let mut buffer = Buffer::new();
+    let digits = buffer.format(code).as_bytes();
+    let name = table_fault_name(code);
+    write_parts(sink, &[b"bad table: ", digits, b" ", name, b"\n"])
+}
+
 /// Writes the line for a status, which takes no memory.
 pub fn write_line<K: Sink>(sink: &mut K, status: Status) -> Result<(), Failed>
     ensures all { OnOk result (Appends (K.held sink.old) (K.held sink.new) (line_of status)) }
@@ -91,5 +117,6 @@ pub fn write_line<K: Sink>(sink: &mut K, status: Status) -> Result<(), Failed>
         Status::WriteFault => write_all(sink, b"write fault\n"),
         Status::NoMemory => write_all(sink, b"no memory\n"),
         Status::BadReport { line } => write_numbered(sink, b"bad report: line ", line),
+        Status::BadTable { code } => write_table(sink, code),
     }
 }

@@ -1,7 +1,8 @@
 //! The whole program over any outside.
 #![tactic(auto)]
 
-pub mod check;
+pub mod by_table;
+mod check;
 pub mod faults;
 pub mod generated;
 pub mod improve;

@@ -8,6 +8,7 @@ ghost use Rattle.un_commands.specs.Settings.{IsCountOfNodes};
 ghost use Rattle.un_commands.specs.declared.command.Command.{Command};
 ghost use Rattle.un_commands.specs.declared.command.MakingCommand.{MakingCommand};
 ghost use Rattle.un_commands.specs.declared.command.ReadingCommand.{ReadingCommand};
+ghost use Rattle.un_isa.specs.Fit.{IsFit};
 ghost use Rattle.un_isa.specs.Versions.{table_of};
 ghost use Rattle.un_isa.specs.declared.table.TheConstants.{LAST};
 ghost use Rattle.un_problem.specs.Problems.{IsProblemOf, IsExtOf};
@@ -17,6 +18,7 @@ ghost use Rattle.un_top.specs.Reports.{IsReportOf, IsSearchText, UsesRoom};
 ghost use Rattle.un_top.specs.Runs.{status_by, IsOutputOf, EndsSo, IsWritten, IsLate, RefusesText, Refuses, RefusesWords};
 ghost use Rattle.un_top.specs.declared.limits.TheConstants.{INPUT};
 
+use crate::by_table::{table_check, table_report, table_run};
 use crate::check::check_input;
 use crate::generated::generated_report;
 use crate::improve::improve_input;
@@ -29,7 +31,7 @@ use un_base::memory_error::NoMemory;
 use un_commands::command::{Command, MakingCommand, ReadingCommand, SearchOptions};
 use un_commands::line::read_command;
 use un_ir::function::Function;
-use un_isa::table::{LAST, table_of};
+use un_isa::table::{LAST, Table, table_of};
 use un_model::model::Model;
 use un_outside::outside::Source;
 use un_outside::status::Status;
@@ -56,6 +58,26 @@ fn found(alloc: Global, f: &Function, m: &Model, nodes: u32) -> Result<Output, N
     Ok(output)
 }
 
+/// The report of a function's text by a table of the processor.
+pub(crate) fn report_by(
+    alloc: Global,
+    text: &[u8],
+    f: &Function,
+    t: &Table,
+    options: SearchOptions,
+) -> Result<Output, NoMemory>
+    requires read { IsRead text.now f.now }
+    requires fit { IsFit t.now }
+    requires options { AreSearchOptions options }
+    ensures report { IfOk result (λ out. IsReportOf t.now (model_options options) options.nodes text.now out.status out.text.items) }
+    ensures written { IfOk result (λ out. IsWritten out.status) }
+{
+    let _ = text;
+    let model = model(alloc, f, t, &options.model_options())?;
+    let output = found(alloc, f, &model, options.nodes)?;
+    Ok(output)
+}
+
 /// The report of a function's text.
 fn report_of(
     alloc: Global,
@@ -68,14 +90,13 @@ fn report_of(
     ensures report { IfOk result (λ out. IsReportOf (table_of LAST) (model_options options) options.nodes text.now out.status out.text.items) }
     ensures written { IfOk result (λ out. IsWritten out.status) }
 {
-    let _ = text;
-    let model = model(alloc, f, &table_of(LAST), &options.model_options())?;
-    let output = found(alloc, f, &model, options.nodes)?;
+    let table = table_of(LAST);
+    let output = report_by(alloc, text, f, &table, options)?;
     Ok(output)
 }
 
 /// How a run of the program ends where there is no outcome.
-fn status_by(refused: Refused) -> Status
+pub(crate) fn status_by(refused: Refused) -> Status
     ensures { result ≡ status_by refused }
 {
     match refused {
@@ -86,7 +107,7 @@ fn status_by(refused: Refused) -> Status
 }
 
 /// What comes of a text that is the whole output.
-fn done(text: Vec<u8>) -> Output
+pub(crate) fn done(text: Vec<u8>) -> Output
     ensures status { result.status ≡ Status.Done }
     ensures text { result.text ≡ text }
 {
@@ -176,6 +197,9 @@ fn most_bytes(command: ReadingCommand) -> usize
         ReadingCommand::RunCode => INPUT,
         ReadingCommand::Check => INPUT,
         ReadingCommand::Improve(_) => INPUT,
+        ReadingCommand::AllocTable(_) => INPUT,
+        ReadingCommand::CheckTable => INPUT,
+        ReadingCommand::RunCodeTable => INPUT,
     }
 }
 
@@ -193,6 +217,9 @@ fn over_input(alloc: Global, command: ReadingCommand, text: &[u8]) -> Result<Out
         ReadingCommand::RunCode => code_output(alloc, text),
         ReadingCommand::Check => check_output(alloc, text),
         ReadingCommand::Improve(options) => improve_output(alloc, text, options),
+        ReadingCommand::AllocTable(options) => table_report(alloc, text, options),
+        ReadingCommand::CheckTable => table_check(alloc, text),
+        ReadingCommand::RunCodeTable => table_run(alloc, text),
     }
 }
 

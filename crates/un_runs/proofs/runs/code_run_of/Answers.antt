@@ -1,4 +1,3 @@
-use Rattle.un_runs.proofs.RunLaws.{of_table}
 use Rattle.un_runs.proofs.runs.code_run_of.Goals as goal
 
 pub returns-clause-ok : goal.returns-clause-ok
@@ -11,6 +10,6 @@ returns-clause-ok c =
       started = c.in_ok-start.ensures.ok;
       room = c.in_ok-start.ensures.room;
       outcome = outcome;
-      is = of_table c.hexagon.result c.args.code.now start c.in_ok-start.count outcome c.hexagon.ensures.table c.in_ok-outcome.ensures;
+      is = c.in_ok-outcome.ensures;
       printed = c.in_ok-out.ensures;
     }

@@ -1,3 +1,5 @@
+use Rattle.un_isa.proofs.HexagonTable.{version_fit}
+use Rattle.un_isa.specs.Versions.{table_of}
 use Rattle.un_report_reader.proofs.LimitLaws.{options_of}
 use Rattle.un_top.proofs.CheckLaws.{view_lines, answered}
 use Rattle.un_top.proofs.check.answer_of.Goals as goal
@@ -13,5 +15,5 @@ check_view-requires-clause-lines c = view_lines c.args.text.now c.args.view.now 
 
 pub returns : goal.returns
 returns c =
-    answered c.args.alloc c.args.f.now c.args.text.now c.args.view.now c.check_view.result c.requires c.check_view.ensures.told
-    c.check_view.ensures.sound
+    answered table_of c.args.alloc c.args.f.now c.args.text.now c.args.view.now c.check_view.result (version_fit c.args.view.now.version)
+    c.requires c.check_view.ensures.told c.check_view.ensures.sound

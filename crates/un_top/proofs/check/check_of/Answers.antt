@@ -5,6 +5,6 @@ returns-clause-ok c = record {
   answer = c.in_ok-view.view.answer;
   told = c.in_ok-told.told;
   answered = c.in_ok-told.ensures;
-  ends = c.told_status.ensures.is;
-  printed = c.in_ok-text.ensures;
+  ends = c.in_ok-out.ensures.ends;
+  printed = c.in_ok-out.ensures.printed;
 }

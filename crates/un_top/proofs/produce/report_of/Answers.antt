@@ -1,14 +1,13 @@
+use Rattle.std.proofs.Common.{refl}
 use Rattle.un_commands.specs.Alloc.{model_options}
 use Rattle.un_isa.specs.Versions.{table_of}
 use Rattle.un_isa.specs.declared.table.TheConstants.{LAST}
-use Rattle.un_top.proofs.SearchLaws.{report_is, report_for}
+use Rattle.un_top.proofs.SearchLaws.{report_for}
 use Rattle.un_top.proofs.produce.report_of.Goals as goal
 
 pub returns-clause-report : goal.returns-clause-report
 returns-clause-report c =
-    let m = c.in_ok-model.model in
+    let o = model_options c.args.options in
     let out = c.in_ok-output.output in
-    let nodes = c.args.options.nodes in
-    report_for c.table_of.result (table_of LAST) c.model_options.result (model_options c.args.options) nodes c.args.text.now out.status out.text.items
-    c.table_of.ensures.is c.model_options.ensures (report_is c.table_of.result c.args.f.now c.model_options.result m nodes c.args.text.now
-    out.status out.text.items c.requires.read c.in_ok-model.ensures.gives c.in_ok-output.ensures.found)
+    report_for c.table_of-table.result (table_of LAST) o o c.args.options.nodes c.args.text.now out.status out.text.items
+    c.table_of-table.ensures.is refl c.in_ok-output.ensures.report

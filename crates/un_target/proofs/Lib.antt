@@ -1,0 +1,9 @@
+pub mod EntryLaws
+pub mod ExampleLaws
+pub mod FitLaws
+pub mod LatencyLaws
+pub mod NameLaws
+pub mod SavedLaws
+pub mod TableLaws
+pub mod UseLaws
+pub mod Verdicts

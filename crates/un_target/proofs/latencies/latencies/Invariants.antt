@@ -1,0 +1,6 @@
+use Rattle.un_target.specs.Lending.{lent_parts}
+use Rattle.un_target.proofs.LatencyLaws.{AreBelow}
+use Rattle.un_target.proofs.latencies.latencies.Given as goal
+
+abbrev pub invariant-loop-number : goal.invariant-loop-number
+invariant-loop-number l = AreBelow (lent_parts l.parts) l.lat l.number

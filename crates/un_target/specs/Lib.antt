@@ -1,0 +1,11 @@
+pub mod Causes
+pub mod Examples
+pub mod Fitting
+pub mod Latencies
+pub mod Lending
+pub mod Names
+pub mod Parts
+pub mod Saved
+pub mod Tables
+pub mod Texts
+pub mod Uses
