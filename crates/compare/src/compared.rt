@@ -1,5 +1,7 @@
 //! A listing compared with a function and its report, as text.
 
+ghost use Rattle.un_isa.specs.Fit.{IsFit};
+
 use crate::least::least_packets;
 use crate::report::{Figures, best_in, figures_in};
 use std::alloc::Global;
@@ -11,6 +13,7 @@ use un_foreign::subset::unknown;
 use un_foreign::waits::waits;
 use un_ir::function::Function;
 use un_ir::text::{put_number, put_text};
+use un_isa::table::Table;
 
 /// Appends texts and numbers by turns, and a text.
 fn put_parts(out: &mut Vec<u8>, parts: &[(&[u8], u64)], end: &[u8]) -> Result<(), NoMemory> {
@@ -48,13 +51,14 @@ fn put_by(out: &mut Vec<u8>, f: &Function, listing: &Listing<'_>, by: By) -> Res
 fn put_beside(
     alloc: Global,
     out: &mut Vec<u8>,
+    t: &Table,
     f: &Function,
     listing: &Listing<'_>,
     matched: &Matched,
     best: &[Option<u64>],
     least: &[u64],
 ) -> Result<Sum, NoMemory> {
-    let waits = waits(alloc, listing, f)?;
+    let waits = waits(alloc, t, listing, f)?;
     let sheet = Sheet {
         f,
         listing,
@@ -71,16 +75,20 @@ fn put_beside(
 fn put_rows(
     alloc: Global,
     out: &mut Vec<u8>,
+    t: &Table,
     f: &Function,
     listing: &Listing<'_>,
     matched: &Matched,
     report: &[u8],
-) -> Result<Sum, NoMemory> {
+) -> Result<Sum, NoMemory>
+    requires { IsFit t.now }
+{
     let best = best_in(alloc, f, report)?;
-    let least = least_packets(alloc, f)?;
+    let least = least_packets(alloc, t, f)?;
     let sum = put_beside(
         alloc,
         out,
+        t,
         f,
         listing,
         matched,
@@ -94,12 +102,15 @@ fn put_rows(
 fn put_figures(
     alloc: Global,
     out: &mut Vec<u8>,
+    t: &Table,
     f: &Function,
     listing: &Listing<'_>,
     report: &[u8],
-) -> Result<Sum, NoMemory> {
+) -> Result<Sum, NoMemory>
+    requires { IsFit t.now }
+{
     let matched = match_blocks(alloc, listing, f)?;
-    let sum = put_rows(alloc, out, f, listing, &matched, report)?;
+    let sum = put_rows(alloc, out, t, f, listing, &matched, report)?;
     put_by(out, f, listing, matched.by)?;
     Ok(sum)
 }
@@ -162,18 +173,21 @@ fn put_last(out: &mut Vec<u8>, sum: &Sum, figures: Option<Figures>) -> Result<()
     }
 }
 
-/// Appends a comparison of a listing with a function and its report: a row for each block, the instructions that are not of the subset, and what all cost.
+/// Appends a comparison, by a table of the processor, of a listing with a function and its report: a row for each block, the instructions that are not of the subset, and what all cost.
 ///
 /// # Errors
 /// `NoMemory` where there is no memory for it.
 pub fn put_compared(
     alloc: Global,
     out: &mut Vec<u8>,
+    t: &Table,
     f: &Function,
     listing: &Listing<'_>,
     report: &[u8],
-) -> Result<(), NoMemory> {
-    let sum = put_figures(alloc, out, f, listing, report)?;
+) -> Result<(), NoMemory>
+    requires { IsFit t.now }
+{
+    let sum = put_figures(alloc, out, t, f, listing, report)?;
     put_unknown(alloc, out, f, listing)?;
     put_last(out, &sum, figures_in(report))
 }

@@ -1,5 +1,8 @@
 //! From the parts of an input to the answer.
 
+ghost use Rattle.std.specs.Prelude.{IfOk};
+ghost use Rattle.un_isa.specs.Fit.{IsFit};
+
 use crate::compared::put_compared;
 use std::alloc::Global;
 use un_answers::answer::Answer;
@@ -12,11 +15,14 @@ use un_foreign::text::at_rule;
 use un_foreign::unread::put_unread;
 use un_ir::function::Function;
 use un_ir::text::put_text;
+use un_isa::table::{LAST, Table, table_of};
 use un_outside::outside::Source;
 use un_outside::status::Status;
 use un_outside::transfer::{ReadAll, read_all};
 use un_reader::error::ReadError;
 use un_reader::read::read_function;
+use un_target::error::TableError;
+use un_target::reading::read_table;
 
 /// What is asked for.
 #[derive(Clone, Copy)]
@@ -43,17 +49,38 @@ struct Parts<'a> {
     function: &'a [u8],
     report: &'a [u8],
     listing: &'a [u8],
+    /// The text of a table, where there is one.
+    table: Option<&'a [u8]>,
 }
 
 /// The parts of an input; None where there is no listing.
 fn parts_of(input: &[u8]) -> Option<Parts<'_>> {
     let first = at_rule(input)?;
     let second = at_rule(first.behind)?;
+    let (listing, table) = match at_rule(second.behind) {
+        Some(third) => (third.front, Some(third.behind)),
+        None => (second.behind, None),
+    };
     Some(Parts {
         function: first.front,
         report: second.front,
-        listing: second.behind,
+        listing,
+        table,
     })
+}
+
+/// The table that all goes by: that of the text where there is one, else that of the last version.
+fn table_in(alloc: Global, text: Option<&[u8]>) -> Result<Table, Status>
+    ensures { IfOk result IsFit }
+{
+    let Some(text) = text else {
+        return Ok(table_of(LAST));
+    };
+    match read_table(alloc, text) {
+        Ok(table) => Ok(table),
+        Err(TableError::NoMemory) => Err(Status::NoMemory),
+        Err(TableError::Bad(cause)) => Err(Status::BadTable { code: cause.code() }),
+    }
 }
 
 /// The bytes of a source.
@@ -86,12 +113,15 @@ fn put_asked(
     alloc: Global,
     out: &mut Vec<u8>,
     asked: Asked,
+    t: &Table,
     f: &Function,
     listing: &Listing<'_>,
     report: &[u8],
-) -> Result<(), NoMemory> {
+) -> Result<(), NoMemory>
+    requires { IsFit t.now }
+{
     match asked {
-        Asked::Comparison => put_compared(alloc, out, f, listing, report),
+        Asked::Comparison => put_compared(alloc, out, t, f, listing, report),
         Asked::Plain => put_listing(out, listing, f),
         Asked::Lines => put_lines(out, listing),
         Asked::Starts => put_starts(out, f),
@@ -102,20 +132,33 @@ fn put_asked(
 fn text_of(
     alloc: Global,
     asked: Asked,
+    t: &Table,
     f: &Function,
     parts: &Parts<'_>,
-) -> Result<Vec<u8>, Unread> {
+) -> Result<Vec<u8>, Unread>
+    requires { IsFit t.now }
+{
     let listing = read_listing(alloc, f, parts.listing)?;
     let mut out = Vec::new(alloc);
-    put_asked(alloc, &mut out, asked, f, &listing, parts.report)?;
+    put_asked(alloc, &mut out, asked, t, f, &listing, parts.report)?;
     Ok(out)
+}
+
+/// The answer for a function by a table.
+fn by_table(alloc: Global, asked: Asked, t: &Table, f: &Function, parts: &Parts<'_>) -> Answer
+    requires { IsFit t.now }
+{
+    match text_of(alloc, asked, t, f, parts) {
+        Ok(out) => Answer::done(alloc, out),
+        Err(why) => unread(alloc, parts.listing, why),
+    }
 }
 
 /// The answer for a function.
 fn of_function(alloc: Global, asked: Asked, f: &Function, parts: &Parts<'_>) -> Answer {
-    match text_of(alloc, asked, f, parts) {
-        Ok(out) => Answer::done(alloc, out),
-        Err(why) => unread(alloc, parts.listing, why),
+    match table_in(alloc, parts.table) {
+        Ok(table) => by_table(alloc, asked, &table, f, parts),
+        Err(status) => Answer::failed(alloc, status),
     }
 }
 

@@ -1,6 +1,8 @@
 //! How many packets each block of the function has in any code of the subset, at least: by the precedences of the operations that every
 //! solution issues, and by what packets have room for.
 
+ghost use Rattle.un_isa.specs.Fit.{IsFit};
+
 use std::alloc::Global;
 use un_base::memory_error::NoMemory;
 use un_ir::extended::{ExtBlock, ExtKind, ExtOp};
@@ -8,7 +10,7 @@ use un_ir::function::Function;
 use un_isa::facts::{Class, class_of};
 use un_isa::packet_counts::{Resource, places};
 use un_isa::reg::SLOTS;
-use un_isa::table::{LAST, table_of};
+use un_isa::table::Table;
 use un_lists::items::Items;
 use un_model::instructions::instruction;
 use un_model::model::{Arc, Model, Options};
@@ -130,13 +132,15 @@ fn least_of_all(alloc: Global, m: &Model) -> Result<Items<u64>, NoMemory> {
     Ok(found)
 }
 
-/// The least number of packets of each block of a function, in any code of the subset.
-pub fn least_packets(alloc: Global, f: &Function) -> Result<Items<u64>, NoMemory> {
+/// The least number of packets of each block of a function, in any code of the subset by a table.
+pub fn least_packets(alloc: Global, t: &Table, f: &Function) -> Result<Items<u64>, NoMemory>
+    requires { IsFit t.now }
+{
     let options = Options {
         regs: None,
         slots: SLOTS,
     };
-    let m = model(alloc, f, &table_of(LAST), &options)?;
+    let m = model(alloc, f, t, &options)?;
     let least = least_of_all(alloc, &m)?;
     Ok(least)
 }

@@ -1,5 +1,5 @@
 //! A program beside `unison`: it compares a listing with a function and its report. Standard input has the function, the report and the
-//! listing, parted by lines `---`; with the word `files` it compares those that a file of this name lists. For runs of both, `plain` prints
+//! listing, and a table of the processor where all is to go by one, parted by lines `---`; with the word `files` it compares those that a file of this name lists. For runs of both, `plain` prints
 //! the listing in the spelling that `alloc` prints, `lines` for each line of that where its packet begins in the listing, and `starts`
 //! prints starts for the function.
 #![tactic(auto)]

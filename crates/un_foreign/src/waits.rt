@@ -1,6 +1,6 @@
-//! In which packets of a listing a cycle passes first, since they read what is not there yet by this project's table: a word that is
-//! loaded, or multiplied, can be read two cycles later. Of each instruction, whether of the subset or not, it is seen in its text which
-//! registers it reads and writes.
+//! In which packets of a listing a cycle passes first, since they read what is not there yet by a table of the processor: a word that is
+//! loaded, or multiplied, can be read two cycles later, say. Of each instruction, whether of the subset or not, it is seen in its text
+//! which registers it reads and writes, and what it does.
 
 use crate::listing::{Listing, block_of};
 use crate::spelling::{always_leaves, jump_in, loop_in, put_plain};
@@ -9,7 +9,7 @@ use std::alloc::Global;
 use un_base::memory_error::NoMemory;
 use un_ir::function::Function;
 use un_isa::op::Op;
-use un_isa::table::{hexagon, latency};
+use un_isa::table::{Table, latency};
 use un_lists::items::Items;
 
 /// Registers: bit n stands for rn, bit 32 + n for pn.
@@ -146,20 +146,114 @@ fn reads(text: &[u8]) -> Registers {
     }
 }
 
-/// Whether an operation's result can't be read in the next cycle.
-fn is_late(op: Op) -> bool {
-    latency(&hexagon(), op) > 1
+/// How instructions of an operation begin behind what they assign.
+struct Beginning {
+    text: &'static [u8],
+    op: Op,
 }
 
-/// The registers that an instruction writes and the next packet can't read yet.
-fn late(text: &[u8]) -> Registers {
+/// The beginnings of operations that do not go by a number; those with one have the latency of the like.
+static BEGINNINGS: [Beginning; 15] = [
+    Beginning {
+        text: b"mem",
+        op: Op::Load,
+    },
+    Beginning {
+        text: b"add(",
+        op: Op::Add,
+    },
+    Beginning {
+        text: b"sub(",
+        op: Op::Sub,
+    },
+    Beginning {
+        text: b"and(",
+        op: Op::And,
+    },
+    Beginning {
+        text: b"or(",
+        op: Op::Or,
+    },
+    Beginning {
+        text: b"xor(",
+        op: Op::Xor,
+    },
+    Beginning {
+        text: b"mux(",
+        op: Op::Mux,
+    },
+    Beginning {
+        text: b"asl(",
+        op: Op::Asl,
+    },
+    Beginning {
+        text: b"asr(",
+        op: Op::Asr,
+    },
+    Beginning {
+        text: b"lsr(",
+        op: Op::Lsr,
+    },
+    Beginning {
+        text: b"cmp.eq(",
+        op: Op::CmpEq,
+    },
+    Beginning {
+        text: b"cmp.gt(",
+        op: Op::CmpGt,
+    },
+    Beginning {
+        text: b"cmp.gtu(",
+        op: Op::CmpGtu,
+    },
+    Beginning {
+        text: b"#",
+        op: Op::Imm,
+    },
+    Beginning {
+        text: b"p",
+        op: Op::P2R,
+    },
+];
+
+/// The operation with a number in place of its last operand.
+fn with_number(op: Op) -> Op {
+    match op {
+        Op::Add => Op::Addi,
+        Op::And => Op::Andi,
+        Op::Or => Op::Ori,
+        Op::CmpEq => Op::CmpEqi,
+        Op::CmpGt => Op::CmpGti,
+        other => other,
+    }
+}
+
+/// The operation that an instruction does behind what it assigns, where its text tells; any that multiplies counts as a product.
+fn operation_of(rest: &[u8]) -> Option<Op> {
+    if find(rest, b"mpy").is_some() {
+        return Some(Op::Mpyi);
+    }
+    for beginning in BEGINNINGS.iter() {
+        if rest.starts_with(beginning.text) {
+            let has_number = find(rest, b"#").is_some();
+            return Some(if has_number {
+                with_number(beginning.op)
+            } else {
+                beginning.op
+            });
+        }
+    }
+    None
+}
+
+/// The registers that an instruction writes and the next packet can't read yet, by a table.
+fn late(t: &Table, text: &[u8]) -> Registers {
     let parts = parts_of(text);
-    let loads = parts.rest.starts_with(b"mem") && is_late(Op::Load);
-    let multiplies = find(parts.rest, b"mpy").is_some() && is_late(Op::Mpyi);
-    if (loads || multiplies) && find(parts.assigned, b"(").is_none() {
-        registers_in(parts.assigned)
-    } else {
-        0
+    match operation_of(parts.rest) {
+        Some(op) if latency(t, op) > 1 && find(parts.assigned, b"(").is_none() => {
+            registers_in(parts.assigned)
+        }
+        _ => 0,
     }
 }
 
@@ -173,6 +267,7 @@ struct Flow {
 /// The flow of an instruction, in its plain spelling: there a call shows what it reads, and a jump's label is no register's name.
 fn flow_of(
     alloc: Global,
+    t: &Table,
     listing: &Listing<'_>,
     f: &Function,
     text: &[u8],
@@ -181,7 +276,7 @@ fn flow_of(
     put_plain(&mut plain, listing, f, text)?;
     Ok(Flow {
         reads: reads(plain.as_slice()),
-        late: late(plain.as_slice()),
+        late: late(t, plain.as_slice()),
     })
 }
 
@@ -203,10 +298,15 @@ fn add_flow(flows: &mut [Flow], packet: u32, flow: Flow) {
 }
 
 /// The flows of all packets.
-fn flows(alloc: Global, listing: &Listing<'_>, f: &Function) -> Result<Items<Flow>, NoMemory> {
+fn flows(
+    alloc: Global,
+    t: &Table,
+    listing: &Listing<'_>,
+    f: &Function,
+) -> Result<Items<Flow>, NoMemory> {
     let mut found = no_flows(alloc, listing.packets.len())?.into_vec();
     for instr in listing.instrs.as_slice() {
-        let flow = flow_of(alloc, listing, f, instr.text)?;
+        let flow = flow_of(alloc, t, listing, f, instr.text)?;
         add_flow(found.as_mut_slice(), instr.packet, flow);
     }
     Ok(Items::from_vec(found))
@@ -289,9 +389,14 @@ fn block_waits(listing: &Listing<'_>, flows: &[Flow], block: u32, at_start: Regi
     waits
 }
 
-/// How many cycles the packets of each block wait. What is late at a block's start is what it is on some way into it.
-pub fn waits(alloc: Global, listing: &Listing<'_>, f: &Function) -> Result<Items<u64>, NoMemory> {
-    let flows = flows(alloc, listing, f)?;
+/// How many cycles the packets of each block wait by a table. What is late at a block's start is what it is on some way into it.
+pub fn waits(
+    alloc: Global,
+    t: &Table,
+    listing: &Listing<'_>,
+    f: &Function,
+) -> Result<Items<u64>, NoMemory> {
+    let flows = flows(alloc, t, listing, f)?;
     let mut found = Items::new(alloc);
     let mut fallen = 0;
     for block in 0..listing.blocks {
