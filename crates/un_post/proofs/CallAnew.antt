@@ -2,20 +2,23 @@
 -- the call.
 use Rattle.std.proofs.Common.{ℕ, zero, suc, ◌≡◌, ◌+◌, ◌<◌, ◌≤◌, Bool, true, false, List, [], ◌∷◌, inl, inr, refl, sym, ap, ◌∙◌, subst}
 use Rattle.std.proofs.Common.{arith, eq-eqb}
-use Rattle.std.specs.Prelude.{Option, Some, None, IfSome, not, ◌||◌, ◌==◌, nat_eq, nat_le, nat_lt, is_some, slice_get}
+use Rattle.std.specs.Prelude.{Option, Some, None, IfSome, not, ◌&&◌, ◌||◌, ◌==◌, nat_eq, nat_le, nat_lt, is_some, slice_get, if◌then◌else◌}
 use Rattle.std.specs.List.{list_any}
 use Rattle.std.proofs.lemmas.Bool.Decides.{nat_tests}
-use Rattle.std.proofs.lemmas.Bool.{cases_lt}
+use Rattle.std.proofs.lemmas.Bool.{cases_lt, or_parts}
 use Rattle.un_base.specs.declared.ids.TempId.{TempId}
+use Rattle.un_isa.specs.Does.{is_compare}
 use Rattle.un_isa.specs.Fit.{IsFit}
 use Rattle.un_isa.specs.Tables.{in_mask}
 use Rattle.un_isa.specs.declared.op.Op.{Op}
+use Rattle.un_isa.specs.declared.op.Op.TheVariants.{Jump as JumpOp, JumpIf, JumpIfNot, Jumpr, Enter as EnterOp, Leave as LeaveOp}
 use Rattle.un_isa.specs.declared.reg.Reg.{Reg}
 use Rattle.un_isa.specs.declared.reg.Space.{Space}
 use Rattle.un_isa.specs.declared.reg.Space.TheVariants.{R, P, M}
 use Rattle.un_isa.specs.declared.reg.TheConstants.{REGISTERS}
 use Rattle.un_isa.specs.declared.table.Table.{Table}
 use Rattle.un_isa.proofs.DoesLaws.{call_is}
+use Rattle.un_ir.specs.declared.function.SrcOp.{SrcOp}
 use Rattle.un_ir.specs.declared.function.Term.TheVariants.{Fall, Jump, Branch, Ret}
 use Rattle.un_ir.specs.declared.extended.ExtKind.{ExtKind}
 use Rattle.un_ir.specs.declared.extended.ExtKind.TheVariants.{In, Out, Body, End, Copy, Enter, Leave}
@@ -27,19 +30,20 @@ use Rattle.un_model.specs.declared.model.Options.{Options}
 use Rattle.un_model.specs.declared.schedule.Issue.{Issue}
 use Rattle.un_model.specs.declared.schedule.LiveRange.{LiveRange}
 use Rattle.un_ir.specs.Kinds.{is_mandatory, is_delimiter, is_call_kind}
-use Rattle.un_model.proofs.Gaps.{gap_least}
-use Rattle.un_model.specs.Instructions.{instruction_of, space_read, is_predicate_space}
+use Rattle.un_model.proofs.Gaps.{gap_least, gap_whole, gap_of_copy, no_compare, latency_some}
+use Rattle.un_model.specs.Instructions.{instruction_of, frame_instr, latency_by, space_read, is_predicate_space}
 use Rattle.un_model.specs.Schedules.{schedule_of, issues_of, value_by}
 use Rattle.un_model.specs.Solutions.{IsSchedule, latency_gap, least_wait, InDomain, InSpace, HasHome, SparesRange, IsSpared}
 use Rattle.un_model.specs.Variables.{model_of, register_domain, source_domain, carried}
-use Rattle.un_model.proofs.Lists.{Member, each_member}
+use Rattle.un_model.proofs.Lists.{Member, each_member, member_map}
 use Rattle.un_model.proofs.OpDomains.{in_entry, register_sits}
 use Rattle.un_model.proofs.Placed.{Placed, Region, region_placed, vars_of, issue_at, Spot, all_count, at_number}
 use Rattle.un_model.proofs.PlacedSchedules.{all, spots, spot_range, range_at, range_here}
 use Rattle.un_model.proofs.Readings.{Solved, Reading, reading, fit_kinds, numbered as solved_numbered}
 use Rattle.un_model.proofs.TempKinds.{carried_at, carried_is}
 use Rattle.un_sites.specs.CallBefores.{is_clobbered_home, reads_clobbered, is_home, reads_reply, reads_anew}
-use Rattle.un_post.proofs.Blocks.{blocks, in_all}
+use Rattle.un_sites.specs.CallBefores.{is_comparison, compares, reads_compared}
+use Rattle.un_post.proofs.Blocks.{blocks, in_all, region_places, stands_in}
 use Rattle.un_post.proofs.Facts.{Given, falls, in_domains, definer_is, reader_goes, Reading as Asking, reading as asked_of}
 use Rattle.un_post.proofs.Memory.{contains_member}
 use Rattle.un_post.proofs.Placing.{place_of}
@@ -59,6 +63,16 @@ any_at p (x ∷ xs) (suc k) y e t = by (p x) (any_at p xs k y e t)
     by : (b : Bool) → list_any p xs ≡ true → (b || list_any p xs) ≡ true
     by true h = refl
     by false h = h
+
+-- where none passes, no element does
+none_at : {X : Type 0} (p : X → Bool) (xs : List X) (y : X) → Member y xs → list_any p xs ≡ false → p y ≡ false
+none_at p [] y m h = elim m [ ]
+none_at p (x ∷ xs) y (inl e) h = ap p (sym e) ∙ (or_parts (p x) (list_any p xs) h).0
+none_at p (x ∷ xs) y (inr m) h = none_at p xs y m (or_parts (p x) (list_any p xs) h).1
+
+left_false : (a b : Bool) → b ≡ true → (a && b) ≡ false → a ≡ false
+left_false false b t h = refl
+left_false true b t h = absurd (cc (sym t ∙ h))
 
 -- ---- registers that calls clobber
 
@@ -140,6 +154,31 @@ always_active (Copy node) n h f = absurd (cc h)
 always_active Enter n h f = absurd (cc h)
 always_active Leave n h f = absurd (cc h)
 
+-- ---- what is waited for
+
+frame_waits : (t : Table) (op : Op) (n : ℕ) → is_compare op ≡ false → (user : Option Op)
+    → latency_gap t (frame_instr op n) user ≡ latency_by t (frame_instr op n)
+frame_waits t op n h user = by (n == 0)
+  where
+    by : (b : Bool) → latency_gap t (if b then None else Some op) user ≡ latency_by t (if b then None else Some op)
+    by true = refl
+    by false = gap_whole t (Some op) user (no_compare t (Some op) user h)
+
+-- what is no comparison is waited for as long as its latency says
+waits_whole : (t : Table) (kind : ExtKind) (n : ℕ) → is_comparison kind ≡ false → (user : Option Op)
+    → latency_gap t (instruction_of kind n) user ≡ latency_by t (instruction_of kind n)
+waits_whole t In n h user = refl
+waits_whole t Out n h user = refl
+waits_whole t (Body o) n h user = gap_whole t (Some o.op) user (no_compare t (Some o.op) user h)
+waits_whole t (End Fall) n h user = refl
+waits_whole t (End (Jump to)) n h user = gap_whole t (Some JumpOp) user (no_compare t (Some JumpOp) user refl)
+waits_whole t (End (Branch pred true to)) n h user = gap_whole t (Some JumpIf) user (no_compare t (Some JumpIf) user refl)
+waits_whole t (End (Branch pred false to)) n h user = gap_whole t (Some JumpIfNot) user (no_compare t (Some JumpIfNot) user refl)
+waits_whole t (End (Ret value)) n h user = gap_whole t (Some Jumpr) user (no_compare t (Some Jumpr) user refl)
+waits_whole t (Copy node) n h user = gap_of_copy t n user
+waits_whole t Enter n h user = frame_waits t EnterOp n refl user
+waits_whole t Leave n h user = frame_waits t LeaveOp n refl user
+
 -- ---- calls
 
 call_carries : (k : ExtKind) (s : Spot) → is_call_kind k ≡ true → carried_at k s ≡ s.temp
@@ -187,8 +226,8 @@ module _ (e : Ext) (o : Options) (x : List ℕ) (given : Given e o x)
         by Enter k c = absurd (cc c)
         by Leave k c = absurd (cc c)
 
-  -- what an operand reads, where it is defined after a call: it waits for that
-  pub record Rewritten (c q : Placed) (operand : Operand) : Type 0 where
+  -- what an operand reads, where it is defined after a call: it waits for that, and for a cycle where no comparison of its block gives it
+  pub record Rewritten (r : Region) (c q : Placed) (operand : Operand) : Type 0 where
     pub spot : Spot
     pub member : Member spot (spots e o x)
     pub block : spot.definer.block ≡ q.block
@@ -196,6 +235,7 @@ module _ (e : Ext) (o : Options) (x : List ℕ) (given : Given e o x)
     pub home : HasHome operand.home (spot_range e o x spot)
     pub late : (issue_at x c).cycle + 1 ≤ (issue_at x spot.definer).cycle
     pub early : (issue_at x spot.definer).cycle + least_wait e.table (instruction_of q.op.kind 0) ≤ (issue_at x q).cycle
+    pub plain : ((j : ℕ) → reads_compared (region_places r) j operand ≡ false) → (issue_at x spot.definer).cycle + 1 ≤ (issue_at x q).cycle
 
   module _ (r : Region) (mr : Member r (blocks e o x)) (c q : Placed) (mc : Member c (region_placed r)) (mq : Member q (region_placed r))
       (call : is_call_kind c.op.kind ≡ true) (behind : (issue_at x c).cycle + 1 ≤ (issue_at x q).cycle)
@@ -300,10 +340,57 @@ module _ (e : Ext) (o : Options) (x : List ℕ) (given : Given e o x)
           ap (least_wait e.table) (own_instruction q.op.kind (value_by x v.instr) mandatory) in
           omega (arith, ready, least, own)
 
-      found : Rewritten c q operand
-      found = record { spot = s; member = rd.member; block = rd.block; active = active; home = home; late = late; early = early }
+      here : Member s.definer (region_placed r)
+      here = stands_in e o x r s.definer mr (definer_is e o x given s rd.member).0 (rd.block ∙ of_region r q mq)
 
-    pub rewritten : Rewritten c q operand
+      -- what a comparison gives is what the operand reads
+      given_by : (so : SrcOp) → s.definer.op.kind ≡ Body so → list_any (λ (y : TempId). y.0 == first_of operand.alts) s.definer.op.results
+          ≡ true
+      given_by so k =
+          let value : s.temp ≡ temp (first_of operand.alts) =
+          sym (ap (λ (kind : ExtKind). carried_at kind s) k)
+          ∙ sym (carried_is e o x (solved_numbered e o x solved) (fit_kinds e o x solved) s rd.member) ∙ rd.value in
+          any_at (λ (y : TempId). y.0 == first_of operand.alts) s.definer.op.results s.place s.temp
+          (definer_is e o x given s rd.member).1 (eq-eqb s.temp.0 (first_of operand.alts) (ap (λ (t : TempId). t.0) value))
+
+      -- so what gives it is no comparison, where none of the block gives it
+      no_comparison : reads_compared (region_places r) 0 operand ≡ false → is_comparison s.definer.op.kind ≡ false
+      no_comparison none = by s.definer.op.kind refl
+        where
+          no : compares operand (place_of s.definer) ≡ false
+          no = none_at (compares operand) (region_places r) (place_of s.definer) (member_map place_of (region_placed r) s.definer here) none
+          by : (kind : ExtKind) → s.definer.op.kind ≡ kind → is_comparison s.definer.op.kind ≡ false
+          by (Body so) k = left_false (is_comparison s.definer.op.kind)
+              (list_any (λ (y : TempId). y.0 == first_of operand.alts) s.definer.op.results) (given_by so k) no
+          by In k = ap is_comparison k
+          by Out k = ap is_comparison k
+          by (End term) k = ap is_comparison k
+          by (Copy node) k = ap is_comparison k
+          by Enter k = ap is_comparison k
+          by Leave k = ap is_comparison k
+
+      plain : ((j : ℕ) → reads_compared (region_places r) j operand ≡ false) → (issue_at x s.definer).cycle + 1 ≤ (issue_at x q).cycle
+      plain none =
+          let ready : h.from + latency_gap e.table h.instr (issue_at x q).instr ≤ (issue_at x q).cycle =
+          subst (λ (v : LiveRange). v.from + latency_gap e.table v.instr (issue_at x q).instr ≤ (issue_at x q).cycle) range rd.ready in
+          let v = vars_of s.definer in
+          let whole = waits_whole e.table s.definer.op.kind (value_by x v.instr) (no_comparison (none 0)) (issue_at x q).instr in
+          let some = latency_some e.table given.fit h.instr in
+          omega (arith, ready, whole, some)
+
+      found : Rewritten r c q operand
+      found = record {
+        spot = s;
+        member = rd.member;
+        block = rd.block;
+        active = active;
+        home = home;
+        late = late;
+        early = early;
+        plain = plain;
+      }
+
+    pub rewritten : Rewritten r c q operand
     rewritten =
         let asked = asked_of e o x given q j operand q_in at in
         let v = vars_of q in

@@ -252,7 +252,7 @@ module _ (e : Ext) (o : Options) (x : List ℕ) (given : Given e o x) where
         issued : Issued ((issue_at x c).cycle + 1) d
 
       module _ (j : ℕ) (operand : Operand) (at : slice_get q.op.operands j ≡ Some operand)
-          (anew : reads_anew e.table (place_of c) q.op.kind j operand ≡ true) (w : Rewritten e o x given schedule c q operand) where
+          (anew : reads_anew e.table (place_of c) q.op.kind j operand ≡ true) (w : Rewritten e o x given schedule r c q operand) where
         abbrev s : Spot
         s = w.spot
 

@@ -1,7 +1,7 @@
 //! What calls separate: an operation behind a call that reads a register which the call clobbers waits for what writes it after the
 //! call.
 
-ghost use Rattle.std.specs.Prelude.{◌≡◌, ◌+◌, ◌<◌, ◌==◌, [], ◌∷◌, ◌++◌, All, IfOk, IfSome, OnOk, map, filter};
+ghost use Rattle.std.specs.Prelude.{◌≡◌, ◌+◌, ◌<◌, ◌≤◌, ◌==◌, [], ◌∷◌, ◌++◌, All, IfOk, IfSome, OnOk, map, filter};
 ghost use Rattle.std.specs.List.{list_any};
 ghost use Rattle.std.specs.Option.{option_map};
 ghost use Rattle.un_base.specs.declared.ids.TempId.{TempId};
@@ -9,6 +9,7 @@ ghost use Rattle.un_model.specs.Pairs.{any_from, joined};
 ghost use Rattle.un_prop.specs.declared.act.Act.TheVariants.{Always};
 ghost use Rattle.un_sites.specs.CallBefores.{is_clobbered_home, reads_clobbered, is_home, reads_reply, reads_anew, waits_anew};
 ghost use Rattle.un_sites.specs.CallBefores.{anew_count, anew_gap, anew_after};
+ghost use Rattle.un_sites.specs.CallBefores.{is_comparison, compares, reads_compared, own_wait};
 ghost use Rattle.un_sites.specs.CallBefores.{is_between, of_call, of_calls, call_befores_by};
 ghost use Rattle.un_kinds.specs.Constraints as constraint;
 ghost use Rattle.un_rooms.specs.Waits.{befores_by};
@@ -28,6 +29,7 @@ use un_base::ids::TempId;
 use un_base::memory_error::NoMemory;
 use un_base::numbers::number;
 use un_ir::extended::{ExtKind, Operand, first_of};
+use un_isa::does::is_compare;
 use un_isa::packet_counts::PACKET;
 use un_isa::reg::{Reg, Space};
 use un_isa::reg_set::is_in_mask;
@@ -123,11 +125,60 @@ fn anew_count(t: &Table, call: &Spot<'_>, u: &Spot<'_>) -> Result<usize, NoMemor
     Ok(count)
 }
 
-/// How many cycles such an operation is after the call, at least.
-fn anew_gap(t: &Table, call: &Spot<'_>, u: &Spot<'_>) -> Result<u32, NoMemory>
-    ensures { IfOk result (λ gap. gap ≡ anew_gap t.now (place_of call.now) (place_of u.now)) }
+/// Whether an operation is a comparison.
+fn is_comparison(kind: &ExtKind) -> bool
+    ensures { result ≡ is_comparison kind.now }
 {
-    let least = 1 + least_wait(t, instruction(&u.it.kind, 0));
+    match kind {
+        ExtKind::Body(o) => is_compare(o.op),
+        _ => false,
+    }
+}
+
+/// Whether an operation is a comparison that gives what an operand reads.
+fn compares(x: &Operand, p: &Spot<'_>) -> bool
+    ensures { result ≡ compares x.now (place_of p.now) }
+{
+    is_comparison(&p.it.kind) && is_among(p.it.results.as_slice(), first_of(x.alts.as_slice()))
+}
+
+/// Whether an operand reads what a comparison among these operations gives.
+fn reads_compared(spots: &[Spot<'_>], x: &Operand) -> bool
+    ensures { result ≡ list_any (λ (p : Spot). compares x.now (place_of p)) spots.now }
+{
+    spots.iter().any(|p| compares(x, p))
+}
+
+/// Whether some operand of an operation reads what a comparison among these operations gives.
+fn any_compared(spots: &[Spot<'_>], u: &Spot<'_>) -> bool
+    ensures { result ≡ any_from (reads_compared (map place_of spots.now)) 0 u.now.it.now.operands }
+{
+    for j in 0..u.it.operands.len() {
+        if reads_compared(spots, u.it.operands.get(j)) {
+            return true;
+        }
+    }
+    false
+}
+
+/// How many cycles an operation of a block waits for what writes its operands, at least.
+fn own_wait(t: &Table, spots: &[Spot<'_>], u: &Spot<'_>) -> u32
+    ensures wait { result ≡ own_wait t.now (map place_of spots.now) (place_of u.now) }
+    ensures small { result ≤ 1 }
+{
+    let least = least_wait(t, instruction(&u.it.kind, 0));
+    if least == 1 || any_compared(spots, u) {
+        least
+    } else {
+        1
+    }
+}
+
+/// How many cycles such an operation of a block is after the call, at least.
+fn anew_gap(t: &Table, spots: &[Spot<'_>], call: &Spot<'_>, u: &Spot<'_>) -> Result<u32, NoMemory>
+    ensures { IfOk result (λ gap. gap ≡ anew_gap t.now (map place_of spots.now) (place_of call.now) (place_of u.now)) }
+{
+    let least = 1 + own_wait(t, spots, u);
     if !u.it.kind.is_call() {
         return Ok(least);
     }
@@ -156,34 +207,37 @@ fn add_wait(
     })
 }
 
-/// What an operation behind a call waits for.
+/// What an operation of a block behind a call waits for.
 fn add_anew(
     waits: &mut Items<Wait>,
     t: &Table,
+    spots: &[Spot<'_>],
     call: &Spot<'_>,
     u: &Spot<'_>,
 ) -> Result<(), NoMemory>
-    ensures { OnOk result (befores_by waits.new ≡ befores_by waits.old ++ anew_after t.now (place_of call.now) (place_of u.now)) }
+    ensures { OnOk result (befores_by waits.new
+        ≡ befores_by waits.old ++ anew_after t.now (map place_of spots.now) (place_of call.now) (place_of u.now)) }
 {
     if waits_anew(t, call, u)? {
-        let gap = anew_gap(t, call, u)?;
+        let gap = anew_gap(t, spots, call, u)?;
         add_wait(waits, call, u, gap)?;
     }
     Ok(())
 }
 
-/// What operations behind a call wait for.
+/// What those operations of a block that are behind a call wait for.
 fn add_all_anew(
     waits: &mut Items<Wait>,
     t: &Table,
-    call: &Spot<'_>,
     spots: &[Spot<'_>],
+    call: &Spot<'_>,
+    behind: &[Spot<'_>],
 ) -> Result<(), NoMemory>
     ensures { OnOk result (befores_by waits.new ≡ befores_by waits.old
-        ++ joined (map (anew_after t.now (place_of call.now)) (map place_of spots.now))) }
+        ++ joined (map (anew_after t.now (map place_of spots.now) (place_of call.now)) (map place_of behind.now))) }
 {
-    for u in spots {
-        add_anew(waits, t, call, u)?;
+    for u in behind {
+        add_anew(waits, t, spots, call, u)?;
     }
     Ok(())
 }
@@ -231,7 +285,7 @@ fn add_call<'a>(
         ++ of_call t.now arcs.now (map place_of spots.now) (option_map place_of next.entry) (place_of call.now)) }
 {
     let found = between(alloc, reach, arcs, call, next, spots)?;
-    add_all_anew(waits, t, call, found.as_slice())
+    add_all_anew(waits, t, spots, call, found.as_slice())
 }
 
 /// What operations wait for after the calls of a block.

@@ -2,6 +2,7 @@
 use Rattle.std.proofs.Common.{◌≡◌, ℕ, List, [], ◌∷◌, Some, None, true, pos, refl}
 use Rattle.un_base.specs.declared.ids.TempId.{TempId}
 use Rattle.un_isa.specs.Hexagon.{HEXAGON}
+use Rattle.un_isa.specs.Versions.{FRESH}
 use Rattle.un_isa.specs.declared.op.Op.{Op}
 use Rattle.un_isa.specs.declared.op.Op.TheVariants.{Call, CmpEqi, Mux}
 use Rattle.un_ir.specs.declared.function.Term.TheVariants.{Branch}
@@ -51,6 +52,17 @@ truths : call_befores_by HEXAGON (arc 1 2 1 ∷ [])
     (first_call ∷ place 2 (source Mux) (anywhere 3 ∷ anywhere 7 ∷ anywhere 7 ∷ []) (temp 8 ∷ []) ∷
     place 3 (End (Branch (record { 0 = 0 }) true (record { 0 = 0 }))) (anywhere 3 ∷ []) [] ∷ []) ≡ waits 1 2 2 ∷ waits 1 3 2 ∷ []
 truths = refl
+
+-- a comparison, and a jump that reads this temporary: it may test fresh what a comparison of its block gives, and waits for all else
+abbrev jump : ℕ → List Constraint
+jump n = call_befores_by FRESH (arc 1 2 1 ∷ []) (first_call ∷ place 2 (source CmpEqi) (anywhere 7 ∷ []) (temp 8 ∷ []) ∷
+    place 3 (End (Branch (record { 0 = 0 }) true (record { 0 = 0 }))) (anywhere n ∷ []) [] ∷ [])
+
+fresh_jump : jump 8 ≡ waits 1 3 1 ∷ []
+fresh_jump = refl
+
+other_jump : jump 3 ≡ waits 1 3 2 ∷ []
+other_jump = refl
 
 -- no truth value is read, or what reads it is not behind the call for sure
 no_truths : call_befores_by HEXAGON (arc 1 2 1 ∷ []) (first_call ∷ place 2 (source CmpEqi) (anywhere 7 ∷ []) (temp 8 ∷ []) ∷

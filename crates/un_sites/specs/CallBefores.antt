@@ -4,12 +4,14 @@ use Rattle.std.specs.Prelude.{ℕ, ◌+◌, ◌==◌, nat_lt, Bool, false, not, 
 use Rattle.std.specs.Prelude.{filter, slice_get, if◌then◌else◌}
 use Rattle.std.specs.List.{list_any}
 use Rattle.un_base.specs.declared.ids.TempId.{TempId}
+use Rattle.un_isa.specs.Does.{is_compare}
 use Rattle.un_isa.specs.Tables.{in_mask}
 use Rattle.un_isa.specs.declared.packet_counts.TheConstants.{PACKET}
 use Rattle.un_isa.specs.declared.reg.Reg.{Reg}
 use Rattle.un_isa.specs.declared.table.Table.{Table}
 use Rattle.un_ir.specs.Linear.{first_of}
 use Rattle.un_ir.specs.declared.extended.ExtKind.{ExtKind}
+use Rattle.un_ir.specs.declared.extended.ExtKind.TheVariants.{Body}
 use Rattle.un_ir.specs.declared.extended.Operand.{Operand}
 use Rattle.un_ir.specs.declared.extended.ExtBlock.{ExtBlock}
 use Rattle.un_model.specs.declared.model.Arc.{Arc}
@@ -64,15 +66,32 @@ count_from p i (x ∷ xs) = count_if (p i x) + count_from p (i + 1) xs
 abbrev pub anew_count : Table → Place → Place → ℕ
 anew_count t c u = count_from (reads_anew t c u.it.kind) 0 u.it.operands
 
+-- ---- what writes such an operand
+
+abbrev pub is_comparison : ExtKind → Bool
+is_comparison (Body o) = is_compare o.op
+is_comparison _ = false
+
+-- an operation is a comparison that gives what an operand reads
+abbrev pub compares : Operand → Place → Bool
+compares x p = is_comparison p.it.kind && list_any (λ (y : TempId). y.0 == first_of x.alts) p.it.results
+
+-- an operand reads what a comparison among these operations gives
+abbrev pub reads_compared : List Place → ℕ → Operand → Bool
+reads_compared ps j x = list_any (compares x) ps
+
+-- how long an operation waits for what writes its operands, at least: only what a comparison of its block gives may be tested fresh
+abbrev pub own_wait : Table → List Place → Place → ℕ
+own_wait t ps u = if any_from (reads_compared ps) 0 u.it.operands then least_wait t (instruction_of u.it.kind 0) else 1
+
 -- What writes such an operand is at least one cycle after the call, and as long before the operation as that waits at least. The
 -- arguments of a call are in different registers, so where more of them have to be written than a packet has places, another cycle lies
 -- between.
-abbrev pub anew_gap : Table → Place → Place → ℕ
-anew_gap t c u =
-    if is_call_kind u.it.kind && nat_lt PACKET (anew_count t c u) then 3 else 1 + least_wait t (instruction_of u.it.kind 0)
+abbrev pub anew_gap : Table → List Place → Place → Place → ℕ
+anew_gap t ps c u = if is_call_kind u.it.kind && nat_lt PACKET (anew_count t c u) then 3 else 1 + own_wait t ps u
 
-abbrev pub anew_after : Table → Place → Place → List Constraint
-anew_after t c u = if waits_anew t c u then Before (time_of c) Always (time_of u) Always (anew_gap t c u) ∷ [] else []
+abbrev pub anew_after : Table → List Place → Place → Place → List Constraint
+anew_after t ps c u = if waits_anew t c u then Before (time_of c) Always (time_of u) Always (anew_gap t ps c u) ∷ [] else []
 
 -- behind a call, but not behind the next one: what is behind that waits for more
 abbrev pub is_between : List Arc → Place → Option Place → Place → Bool
@@ -80,7 +99,7 @@ is_between arcs c None u = is_behind arcs c u
 is_between arcs c (Some d) u = is_behind arcs c u && not (is_behind arcs d u)
 
 abbrev pub of_call : Table → List Arc → List Place → Option Place → Place → List Constraint
-of_call t arcs ps next c = joined (map (anew_after t c) (filter (is_between arcs c next) ps))
+of_call t arcs ps next c = joined (map (anew_after t ps c) (filter (is_between arcs c next) ps))
 
 -- the call at place i among these
 abbrev pub of_call_at : Table → List Arc → List Place → List Place → ℕ → Place → List Constraint
