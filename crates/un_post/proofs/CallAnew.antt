@@ -359,6 +359,7 @@ module _ (e : Ext) (o : Options) (x : List ℕ) (given : Given e o x)
         where
           no : compares operand (place_of s.definer) ≡ false
           no = none_at (compares operand) (region_places r) (place_of s.definer) (member_map place_of (region_placed r) s.definer here) none
+
           by : (kind : ExtKind) → s.definer.op.kind ≡ kind → is_comparison s.definer.op.kind ≡ false
           by (Body so) k = left_false (is_comparison s.definer.op.kind)
               (list_any (λ (y : TempId). y.0 == first_of operand.alts) s.definer.op.results) (given_by so k) no
