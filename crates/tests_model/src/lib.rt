@@ -24,6 +24,8 @@ mod sets;
 #[cfg(test)]
 mod stores;
 #[cfg(test)]
+mod symmetry;
+#[cfg(test)]
 mod trees;
 #[cfg(test)]
 mod ways;

@@ -15,6 +15,7 @@ use crate::compactions::COMPACTIONS;
 use crate::merges::MERGES;
 use crate::orders::ORDERS;
 use crate::relaxed::relaxed;
+use crate::symmetry::SYMMETRY;
 use crate::ways::WAYS;
 use crate::words::{cut, number, number_at};
 use std::alloc::Global;
@@ -24,19 +25,49 @@ use un_bound::plain::{is_short, plain_bound};
 use un_bound::relax::RelaxAnswer;
 use un_compact::compact::compact;
 use un_ir::text::{put_number, put_text};
+use un_isa::reg::{Reg, SLOTS};
 use un_isa::table::hexagon;
 use un_lists::items::Items;
 use un_merges::merges::without_merges;
 use un_model::cost::value;
-use un_model::model::{Arc, Model, Solution};
+use un_model::model::{ASSIGNABLE, Arc, Model, Options, Solution};
 use un_model::verdict::Broken;
 use un_press::carrier::{carrier, crosses};
 use un_problem::problem::{default_options, model};
 use un_reader::read::read_function;
+use un_symm::exchange::exchange;
+use un_symm::interchangeable::interchangeable;
 use un_violations::violations::{loose_violations, violations};
 
-/// The model of the function that a text is.
-fn model_of(alloc: Global, function: &[u8]) -> Result<Model, NoMemory>
+/// Options with so many general registers and slots; all registers and the most slots where there are none of so many.
+fn options_by(regs: u32, slots: u32) -> Options
+    ensures { AreOptions result }
+{
+    let regs = if regs >= 1 && regs <= ASSIGNABLE {
+        Some(regs)
+    } else {
+        None
+    };
+    Options {
+        regs,
+        slots: slots.min(SLOTS),
+    }
+}
+
+/// The options of a question, which one about registers names behind the registers.
+fn options_of(question: &[u8]) -> Options
+    ensures { AreOptions result }
+{
+    match question.first() {
+        Some(b'i') => options_by(number_at(question, 3), number_at(question, 4)),
+        Some(b'x') => options_by(number_at(question, 3), number_at(question, 4)),
+        _ => default_options(),
+    }
+}
+
+/// The model of the function that a text is, under these options.
+fn model_of(alloc: Global, function: &[u8], options: &Options) -> Result<Model, NoMemory>
+    requires { AreOptions options.now }
     ensures model { IfOk result IsModel }
     ensures extended { IfOk result (λ m. IsExtended m.ext) }
     ensures fit { IfOk result (λ m. IsFit m.ext.table) }
@@ -45,7 +76,7 @@ fn model_of(alloc: Global, function: &[u8]) -> Result<Model, NoMemory>
     let Ok(f) = read_function(alloc, function) else {
         return Err(NoMemory);
     };
-    let m = model(alloc, &f, &hexagon(), &default_options())?;
+    let m = model(alloc, &f, &hexagon(), options)?;
     Ok(m)
 }
 
@@ -226,6 +257,42 @@ fn put_compacted(alloc: Global, out: &mut Vec<u8>, m: &Model, values: &[u8]) -> 
     put_changes(out, s.values.as_slice(), new.values.as_slice())
 }
 
+/// Appends whether the registers of a question are interchangeable.
+fn put_alike(out: &mut Vec<u8>, m: &Model, question: &[u8]) -> Result<(), NoMemory> {
+    let (a, b) = (Reg(number_at(question, 1)), Reg(number_at(question, 2)));
+    put_text(
+        out,
+        if interchangeable(m, a, b) {
+            b"yes".as_slice()
+        } else {
+            b"no".as_slice()
+        },
+    )
+}
+
+/// Appends what an exchange of the registers of a question changes of the values of a solution.
+fn put_exchanged(
+    alloc: Global,
+    out: &mut Vec<u8>,
+    m: &Model,
+    values: &[u8],
+    question: &[u8],
+) -> Result<(), NoMemory>
+    requires model { IsModel m.now }
+{
+    let values = numbers(alloc, values)?;
+    let s = Solution { values };
+    if !violations(alloc, m, &s)?.is_empty() {
+        return put_text(out, b"no solution");
+    }
+    let (a, b) = (Reg(number_at(question, 1)), Reg(number_at(question, 2)));
+    if !interchangeable(m, a, b) {
+        return put_text(out, b"not alike");
+    }
+    let new = exchange(alloc, m, &s, a, b)?;
+    put_changes(out, s.values.as_slice(), new.values.as_slice())
+}
+
 /// Appends the temporary that carries a value in a cycle of a solution.
 fn put_carrier(
     alloc: Global,
@@ -273,6 +340,8 @@ fn put_answer(
         Some(b'l') => put_loose(alloc, out, m, values),
         Some(b'c') => put_compacted(alloc, out, m, values),
         Some(b'k') => put_carrier(alloc, out, m, values, question),
+        Some(b'i') => put_alike(out, m, question),
+        Some(b'x') => put_exchanged(alloc, out, m, values, question),
         _ => put_changed(alloc, out, m, values, question),
     }
 }
@@ -293,7 +362,8 @@ fn has_answer(alloc: Global, m: &Model, values: &[u8], section: &[u8]) -> Result
 /// The same for the model of a row.
 fn is_answered(alloc: Global, text: &[u8], section: &[u8]) -> Result<bool, NoMemory> {
     let (function, values) = cut(text, b'^');
-    let m = model_of(alloc, function)?;
+    let (question, _) = cut(section, b':');
+    let m = model_of(alloc, function, &options_of(question))?;
     has_answer(alloc, &m, values, section)
 }
 
@@ -323,5 +393,6 @@ fn answers_of_models(rt: HostRuntime) {
     let merges = matches!(all_answered(rt.alloc(), MERGES), Ok(true));
     let carriers = matches!(all_answered(rt.alloc(), CARRIERS), Ok(true));
     let compactions = matches!(all_answered(rt.alloc(), COMPACTIONS), Ok(true));
-    assert!(rt; broken && ways && orders && merges && carriers && compactions);
+    let symmetry = matches!(all_answered(rt.alloc(), SYMMETRY), Ok(true));
+    assert!(rt; broken && ways && orders && merges && carriers && compactions && symmetry);
 }

@@ -1,0 +1,10 @@
+pub mod Apart
+pub mod Clauses
+pub mod Domains
+pub mod Exchanging
+pub mod HomeLaws
+pub mod HomeSteps
+pub mod Pins
+pub mod SlotTests
+pub mod Tests
+pub mod Values
