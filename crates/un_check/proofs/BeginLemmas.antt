@@ -1,20 +1,16 @@
 -- Before the first node.
-use Rattle.std.proofs.Common.{ℕ, ◌≡◌, ◌≢◌, ◌+◌, ◌≤◌, Bool, true, List, [], ◌∷◌, ◌++◌, length, map, None, Some}
-use Rattle.std.proofs.Common.{refl, sym, ap, subst, ◌∙◌, arith}
+use Rattle.std.proofs.Common.{ℕ, ◌≡◌, ◌≢◌, ◌+◌, ◌≤◌, Bool, true, List, [], ◌∷◌, length, map, None}
+use Rattle.std.proofs.Common.{sym, ap, subst, ◌∙◌, arith}
 use Rattle.std.specs.declared.option.Option.{Option}
 use Rattle.std.specs.List.{AllByRecursion}
 use Rattle.std.proofs.lemmas.List.Elements.{All-nil, All-from_recursion}
-use Rattle.un_domains.specs.OrderLaws.{Below-refl, has_here, has_later}
+use Rattle.un_domains.specs.OrderLaws.{has_here, has_later}
 use Rattle.un_domains.specs.SetLaws.{has-fold_max}
-use Rattle.un_domains.specs.Sets.{Sets, NoneEmpty, has}
-use Rattle.un_engine.specs.Ends.{IsEnd}
-use Rattle.un_engine.specs.Engines.{State}
+use Rattle.un_domains.specs.Sets.{has}
 use Rattle.un_ir.specs.declared.extended.ExtBlock.{ExtBlock}
-use Rattle.un_kinds.specs.AnyProps.{cut_of}
-use Rattle.un_kinds.specs.declared.any.AnyProp.{AnyProp}
 use Rattle.un_model.specs.declared.model.Model.{Model}
 use Rattle.un_model.specs.Variables.{own_horizon}
-use Rattle.un_post.specs.Posts.{fix_at, largest_horizon}
+use Rattle.un_post.specs.Posts.{largest_horizon}
 use Rattle.un_prop.specs.Pruning.{HasRoom}
 use Rattle.un_prop.specs.declared.propagator.Scratch.{Scratch}
 use Rattle.un_tree.specs.Boxes.{reached}
@@ -22,42 +18,13 @@ use Rattle.un_tree.specs.Waits.{Waiting, Whole, Visit, IsWhole, visits}
 use Rattle.un_tree.specs.declared.node.Decision.{Decision}
 use Rattle.un_tree.specs.declared.node.Node.{Node}
 use Rattle.un_tree.specs.declared.node.Node.TheVariants.{Open}
-use Rattle.un_levels.specs.Levels.{Leveled, ways}
 use Rattle.un_certificate.specs.Certificates.{root_of}
-use Rattle.un_certificate.specs.Posted.{ArePosted}
-use Rattle.un_check.specs.Rooms.{AllSplit, AllLost, HasScratch, IsAt, IsEndAt, path_of, waits, waiting_at}
+use Rattle.un_stand.specs.Rooms.{path_of}
+use Rattle.un_stand.specs.Turns.{waits, waiting_at}
+use Rattle.un_check.specs.Judging.{HasScratch}
 use Rattle.un_certificate.specs.Bounds.{IsLeastOpen}
 use Rattle.un_check.specs.Walks.{IsWalk}
-use Rattle.un_check.specs.declared.room.Room.{Room}
 use Rattle.un_check.specs.declared.walk.Walk.{Walk}
-
-pub path_none : (live dead : List Decision) → live ≡ [] → dead ≡ [] → live ++ dead ≡ []
-path_none live dead l d = ap (λ (ds : List Decision). ds ++ dead) l ∙ d
-
-module _ (m : Model) (limit : Option ℕ) (full : NoneEmpty (root_of m)) (ps : List AnyProp) (posted : ArePosted m limit ps) where
-  first_end : (e : Option (State AnyProp)) → IsEnd cut_of ps (root_of m) e → IsEndAt m limit [] e
-  first_end None h = (refl, sym (posted.fixed (root_of m)) ∙ h)
-  first_end (Some e) h = record {
-    posted = subst (ArePosted m limit) (sym h.props) posted;
-    long = h.long;
-    at = subst (λ (ms : List Sets). Leveled (root_of m) (fix_at m limit) (root_of m) [] ms e.store.sets) (sym h.fresh)
-        ((Below-refl (root_of m), full), sym (posted.fixed (root_of m)) ∙ h.fix);
-  }
-
-  pub first_at : (s : Sets) (r : Room) → s ≡ root_of m → IsEnd cut_of ps s r.engine → r.cuts.sets ≡ s → r.cuts.marked ≡ []
-      → r.live.items ≡ [] → r.dead.items ≡ [] → IsAt m limit r
-  first_at s r is end sets marked live dead =
-      let path : path_of r ≡ [] = path_none r.live.items r.dead.items live dead in
-      record {
-        split = subst (AllSplit (root_of m)) (sym path) tt;
-        box = record {
-          sets = sets ∙ (is ∙ ap (reached (root_of m)) (sym path));
-          marked = marked ∙ ap (ways (root_of m)) (sym path);
-        };
-        end = subst (λ (ds : List Decision). IsEndAt m limit ds r.engine) (sym live)
-            (first_end r.engine (subst (λ (b : Sets). IsEnd cut_of ps b r.engine) is end));
-        lost = subst (AllLost (fix_at m limit) (reached (root_of m) r.live.items)) (sym dead) tt;
-      }
 
 pub first_walk : (m : Model) (limit : Option ℕ) (nodes : List Node) (w : Walk) → path_of w.room ≡ [] → w.more ≡ true → w.place ≡ 0
     → w.open_leaves ≡ 0 → w.least ≡ None → IsWalk m limit nodes nodes w

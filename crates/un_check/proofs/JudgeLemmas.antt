@@ -1,10 +1,10 @@
 -- What is found of a node.
-use Rattle.std.proofs.Common.{ℕ, ◌≡◌, ◌<◌, ◌≤◌, All, length, Some, None, refl, sym, ap, ◌∙◌, subst, arith}
+use Rattle.std.proofs.Common.{ℕ, ◌≡◌, ◌<◌, ◌≤◌, All, length, Some, None, refl, sym, subst, arith}
 use Rattle.std.specs.declared.option.Option.{Option}
 use Rattle.std.proofs.Common.{◌+◌}
 use Rattle.std.proofs.lemmas.List.{length-map}
 use Rattle.un_domains.specs.Domains.{values_of}
-use Rattle.un_domains.specs.Sets.{Sets, NoneEmpty}
+use Rattle.un_domains.specs.Sets.{Sets}
 use Rattle.un_ir.specs.declared.extended.ExtBlock.{ExtBlock}
 use Rattle.un_prop.specs.Pruning.{HasRoom}
 use Rattle.un_model.specs.declared.model.Model.{Model}
@@ -14,16 +14,15 @@ use Rattle.un_bound.specs.declared.relax.RelaxAnswer.TheVariants.{Empty, Least}
 use Rattle.un_post.specs.Posts.{fix_at}
 use Rattle.un_prop.specs.declared.propagator.Scratch.{Scratch}
 use Rattle.un_base.specs.declared.ids.VarId.{VarId}
-use Rattle.un_tree.specs.Boxes.{IsBox, Splits, reached}
+use Rattle.un_tree.specs.Boxes.{Splits, reached}
 use Rattle.un_tree.specs.Waits.{Whole}
 use Rattle.un_tree.specs.declared.node.Node.TheVariants.{Branch, Closed, Open}
 use Rattle.un_certificate.specs.Certificates.{IsEmptyUnder, root_of}
-use Rattle.un_check.specs.Judging.{IsUnder, IsLeastUnder, IsJudged}
-use Rattle.un_check.specs.Rooms.{HasScratch, IsAt, path_of}
+use Rattle.un_stand.specs.Rooms.{IsAt, path_of}
+use Rattle.un_stand.specs.declared.room.Room.{Room}
+use Rattle.un_check.specs.Judging.{HasScratch, IsUnder, IsLeastUnder, IsJudged}
 use Rattle.un_check.specs.declared.judge.Judged.TheVariants.{Broken, Kept, Leaf}
-use Rattle.un_check.specs.declared.room.Room.{Room}
 use Rattle.un_check.specs.declared.verdict.TreeVerdict.TheVariants.{NotStrict, NotAlive, NotClosed}
-use Rattle.un_check.proofs.RoomLemmas.{box_here}
 
 -- a relaxation keeps the room that it uses
 pub scratch_kept : (m : Model) (a b : Scratch) → HasScratch m a → length b.fixed.items ≡ length a.fixed.items
@@ -64,17 +63,14 @@ least_is m (Some c) b (Least n) (Some k) h u =
 
 -- the box that the store has
 module _ (m : Model) (limit : Option ℕ) (r : Room) (h : IsAt m limit r) where
-  pub cuts_box : NoneEmpty (root_of m) → IsBox (root_of m) r.cuts.sets
-  cuts_box full = subst (IsBox (root_of m)) (sym h.box.sets) (box_here m limit r h full)
+  pub at_cuts : (P : Sets → Type 0) → P r.stand.cuts.sets → P (reached (root_of m) (path_of r))
+  at_cuts P p = subst P h.stand.box.sets p
 
-  pub at_cuts : (P : Sets → Type 0) → P r.cuts.sets → P (reached (root_of m) (path_of r))
-  at_cuts P p = subst P h.box.sets p
-
-  pub branch_one : (place : ℕ) (v : VarId) (x : ℕ) → (Splits r.cuts.sets v x → ⊥)
+  pub branch_one : (place : ℕ) (v : VarId) (x : ℕ) → (Splits r.stand.cuts.sets v x → ⊥)
       → IsJudged m limit place (Branch v x) (Whole (reached (root_of m) (path_of r))) (Broken (NotStrict place))
   branch_one place v x never = (refl, at_cuts (λ b. Splits b v x → ⊥) never)
 
-  pub branch_empty : (place : ℕ) (v : VarId) (x : ℕ) (least : Option ℕ) → Splits r.cuts.sets v x
+  pub branch_empty : (place : ℕ) (v : VarId) (x : ℕ) (least : Option ℕ) → Splits r.stand.cuts.sets v x
       → IsLeastUnder m limit (reached (root_of m) (path_of r)) least → least ≡ None
       → IsJudged m limit place (Branch v x) (Whole (reached (root_of m) (path_of r))) (Broken (NotAlive place))
   branch_empty place v x least s l is = (
@@ -83,7 +79,7 @@ module _ (m : Model) (limit : Option ℕ) (r : Room) (h : IsAt m limit r) where
     (let e = subst (IsLeastUnder m limit (reached (root_of m) (path_of r))) is l in λ alive. alive e),
   )
 
-  pub branch_kept : (place : ℕ) (v : VarId) (x : ℕ) (least : Option ℕ) (k : ℕ) → Splits r.cuts.sets v x
+  pub branch_kept : (place : ℕ) (v : VarId) (x : ℕ) (least : Option ℕ) (k : ℕ) → Splits r.stand.cuts.sets v x
       → IsLeastUnder m limit (reached (root_of m) (path_of r)) least → least ≡ Some k
       → IsJudged m limit place (Branch v x) (Whole (reached (root_of m) (path_of r))) Kept
   branch_kept place v x least k s l is = (

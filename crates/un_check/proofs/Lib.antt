@@ -6,7 +6,6 @@ pub mod LeafLemmas
 pub mod LineLemmas
 pub mod OneModel
 pub mod ReportLemmas
-pub mod RoomLemmas
 pub mod SearchLemmas
 pub mod SoundBounds
 pub mod SoundCodes

@@ -6,26 +6,25 @@ use Rattle.std.specs.List.{AllByRecursion}
 use Rattle.std.proofs.lemmas.Bool.{cases_lt}
 use Rattle.std.proofs.lemmas.List.{get_or_append_left, get_or_at}
 use Rattle.std.proofs.lemmas.List.Elements.{All-push, All-same, All-weaker, recursion_from_All, All-from_recursion}
-use Rattle.un_base.specs.declared.ids.VarId.{VarId}
-use Rattle.un_domains.specs.OrderLaws.{Below-refl, Below-trans}
+use Rattle.un_domains.specs.OrderLaws.{Below-refl}
 use Rattle.un_domains.specs.Sets.{Sets, NoneEmpty}
 use Rattle.un_model.specs.declared.model.Model.{Model}
 use Rattle.un_bound.specs.Relaxations.{IsLeast}
-use Rattle.un_prop.specs.declared.side.Side.{Side}
 use Rattle.un_prop.specs.declared.side.Side.TheVariants.{AtMost, Above}
-use Rattle.un_tree.specs.Boxes.{IsBox, half, Splits, reached}
+use Rattle.un_tree.specs.Boxes.{IsBox, half, reached}
 use Rattle.un_tree.specs.Covered.{Stands}
 use Rattle.un_tree.specs.Searched.{HasAtLeast, HasLeast, IsLowest}
 use Rattle.un_tree.specs.Waits.{Waiting, Whole, Visit, IsWhole, IsStrict, after, visits, visits_of, open_count}
 use Rattle.un_tree.specs.declared.node.Node.{Node}
 use Rattle.un_tree.specs.declared.node.Node.TheVariants.{Branch, Closed, Open}
-use Rattle.un_branching.proofs.BoxLemmas.{half_box}
 use Rattle.un_certificate.proofs.Lowest.{lower, other_least}
 use Rattle.un_certificate.specs.Bounds.{IsLeastOpen}
 use Rattle.un_certificate.specs.Certificates.{IsAlive, IsBelow, IsStanding, root_of}
 use Rattle.un_certificate.specs.ModelLaws.{posted_keeps}
 use Rattle.un_certificate.specs.Posted.{IsPosted}
-use Rattle.un_check.specs.Rooms.{path_of, waits, waiting_at}
+use Rattle.un_stand.specs.Rooms.{path_of}
+use Rattle.un_stand.specs.Turns.{waits, waiting_at}
+use Rattle.un_stand.proofs.Paths.{side_box}
 use Rattle.un_check.specs.Verdicts.{Keeps, KeepsIn, BreaksIn, IsFirstBreak, IsYes, IsVerdict, OnYes}
 use Rattle.un_check.specs.Walks.{IsWalk, lowered}
 use Rattle.un_check.specs.declared.verdict.TreeVerdict.{TreeVerdict}
@@ -209,10 +208,6 @@ abbrev AllBoxes : Sets → List Waiting → Type 0
 AllBoxes root [] = Unit {0}
 AllBoxes root (Whole b ∷ ws) = IsBox root b × AllBoxes root ws
 
-half_inside : (root b : Sets) (v : VarId) (x : ℕ) (side : Side) → IsBox root b → Splits b v x → IsBox root (half b v x side)
-half_inside root b v x side i s =
-    let h = half_box b b v x side i.1 (Below-refl b) i.1 s in (Below-trans (half b v x side) b root h.0 i.0, h.1)
-
 module _ (m : Model) (limit : Option ℕ) (p : IsPosted m limit) where
   all_stand : (i : ℕ) (ns : List Node) (ws : List Waiting) → AllBoxes (root_of m) ws → AllByRecursion (Keeps m limit) (visits i ns ws)
       → AllByRecursion (Stands (IsBelow m limit)) (visits i ns ws)
@@ -220,8 +215,10 @@ module _ (m : Model) (limit : Option ℕ) (p : IsPosted m limit) where
   all_stand i (n ∷ ns) [] boxes keep = tt
   all_stand i (Branch v x ∷ ns) (Whole b ∷ ws) boxes keep = (
     tt,
-    all_stand (i + 1) ns (Whole (half b v x AtMost) ∷ Whole (half b v x Above) ∷ ws)
-        (half_inside (root_of m) b v x AtMost boxes.0 keep.0.strict, (half_inside (root_of m) b v x Above boxes.0 keep.0.strict, boxes.1))
+    all_stand (i + 1) ns (Whole (half b v x AtMost) ∷ Whole (half b v x Above) ∷ ws) (
+      side_box (root_of m) b (record { var = v; val = x; side = AtMost }) AtMost boxes.0 keep.0.strict,
+      (side_box (root_of m) b (record { var = v; val = x; side = Above }) Above boxes.0 keep.0.strict, boxes.1),
+    )
         keep.1,
   )
   all_stand i (Closed ∷ ns) (Whole b ∷ ws) boxes keep = (

@@ -1,8 +1,11 @@
--- What is found of a node, and the least cost of a relaxation below a limit.
-use Rattle.std.specs.Prelude.{ℕ, ◌≡◌, ◌≢◌, ◌<◌, ◌≤◌, None, Some}
+-- What is found of a node, the least cost of a relaxation below a limit, and room for relaxations.
+use Rattle.std.specs.Prelude.{ℕ, ◌≡◌, ◌≢◌, ◌+◌, ◌<◌, ◌≤◌, None, Some, All, length}
 use Rattle.std.specs.declared.option.Option.{Option}
 use Rattle.un_domains.specs.Sets.{Sets}
+use Rattle.un_ir.specs.declared.extended.ExtBlock.{ExtBlock}
 use Rattle.un_model.specs.declared.model.Model.{Model}
+use Rattle.un_prop.specs.Pruning.{HasRoom}
+use Rattle.un_prop.specs.declared.propagator.Scratch.{Scratch}
 use Rattle.un_bound.specs.Relaxations.{IsLeast}
 use Rattle.un_bound.specs.declared.relax.RelaxAnswer.{RelaxAnswer}
 use Rattle.un_bound.specs.declared.relax.RelaxAnswer.TheVariants.{Empty, Least}
@@ -10,10 +13,14 @@ use Rattle.un_tree.specs.Searched.{HasLeast}
 use Rattle.un_tree.specs.Waits.{Waiting}
 use Rattle.un_tree.specs.declared.node.Node.{Node}
 use Rattle.un_tree.specs.declared.node.Node.TheVariants.{Open}
-use Rattle.un_certificate.specs.Certificates.{IsEmptyUnder}
+use Rattle.un_certificate.specs.Certificates.{IsEmptyUnder, root_of}
 use Rattle.un_check.specs.Verdicts.{KeepsIn, BreaksIn}
 use Rattle.un_check.specs.declared.judge.Judged.{Judged}
 use Rattle.un_check.specs.declared.judge.Judged.TheVariants.{Broken, Kept, Leaf}
+
+-- room for the relaxation of each block
+abbrev pub HasScratch : Model → Scratch → Type 0
+HasScratch m scratch = All (λ (block : ExtBlock). HasRoom (length (root_of m)) (block.horizon + 1) scratch) m.ext.blocks
 
 -- the least cost that a relaxation answers, where it is below the limit
 abbrev pub IsUnder : Option ℕ → RelaxAnswer → Option ℕ → Type 0

@@ -6,7 +6,8 @@ use Rattle.un_tree.specs.Texts.{Fits, tree_text}
 use Rattle.un_tree.specs.Waits.{Visit, IsWhole, IsTreeOf, visits, visits_of, open_count}
 use Rattle.un_tree.specs.declared.node.Node.{Node}
 use Rattle.un_certificate.specs.Certificates.{root_of}
-use Rattle.un_check.specs.Rooms.{path_of, waiting_at}
+use Rattle.un_stand.specs.Rooms.{path_of}
+use Rattle.un_stand.specs.Turns.{waiting_at}
 use Rattle.un_certificate.specs.Bounds.{IsLeastOpen}
 use Rattle.un_check.specs.Verdicts.{Keeps}
 use Rattle.un_check.specs.declared.walk.Walk.{Walk}

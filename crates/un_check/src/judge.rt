@@ -6,16 +6,16 @@ ghost use Rattle.un_bound.specs.Relaxations.{IsRelaxation};
 ghost use Rattle.un_tree.specs.Boxes.{Splits, reached};
 ghost use Rattle.un_tree.specs.Waits.{Whole};
 ghost use Rattle.un_certificate.specs.Certificates.{root_of};
-ghost use Rattle.un_check.specs.Rooms.{CanCheck, HasScratch, IsAt, path_of};
-ghost use Rattle.un_check.specs.Judging.{IsJudged, IsUnder, IsLeastUnder};
+ghost use Rattle.un_stand.specs.Rooms.{CanCheck, IsAt, path_of};
+ghost use Rattle.un_check.specs.Judging.{HasScratch, IsJudged, IsUnder, IsLeastUnder};
 
-use crate::room::{Room, is_lost};
-use crate::rules::Rules;
 use crate::verdict::TreeVerdict;
 use un_base::ids::VarId;
 use un_bound::relax::{RelaxAnswer, relax_bound};
 use un_domains::store::Store;
 use un_prop::propagator::Scratch;
+use un_stand::room::{Room, is_lost};
+use un_stand::rules::Rules;
 use un_tree::node::Node;
 
 /// What was found of a node.
@@ -74,7 +74,7 @@ fn least_under(rules: &Rules, room: &Room, scratch: &mut Scratch) -> Option<u64>
     ensures room { HasScratch rules.now.m.now scratch.new }
     ensures least { IsLeastUnder rules.now.m.now rules.now.limit (reached (root_of rules.now.m.now) (path_of room.now)) result }
 {
-    let answer = relaxed(rules, &room.cuts, scratch);
+    let answer = relaxed(rules, &room.stand.cuts, scratch);
     under(rules.limit, answer)
 }
 
@@ -94,7 +94,7 @@ fn judge_branch(
     ensures judged { IsJudged rules.now.m.now rules.now.limit place (Node.Branch var val)
         (Whole (reached (root_of rules.now.m.now) (path_of room.now))) result }
 {
-    if !splits(&room.cuts, var, val) {
+    if !splits(&room.stand.cuts, var, val) {
         return Judged::Broken(TreeVerdict::NotStrict(place));
     }
     match least_under(rules, room, scratch) {

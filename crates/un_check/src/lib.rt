@@ -7,8 +7,6 @@ pub mod laws;
 mod leaves;
 pub mod lines;
 pub mod report;
-mod room;
-mod rules;
 pub mod tree;
 pub mod verdict;
 mod walk;

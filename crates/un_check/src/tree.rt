@@ -9,12 +9,11 @@ ghost use Rattle.un_model.specs.declared.model.Model.{Model};
 ghost use Rattle.un_tree.specs.Texts.{Fits, tree_text};
 ghost use Rattle.un_tree.specs.declared.node.Node.{Node};
 ghost use Rattle.un_certificate.specs.Certificates.{IsStanding};
-ghost use Rattle.un_check.specs.Rooms.{CanCheck, HasScratch, IsAt};
+ghost use Rattle.un_stand.specs.Rooms.{CanCheck, IsAt};
+ghost use Rattle.un_check.specs.Judging.{HasScratch};
 ghost use Rattle.un_check.specs.Verdicts.{IsVerdict, OnYes};
 ghost use Rattle.un_check.specs.Walks.{IsWalk, AreNodeLines};
 
-use crate::room::first_room;
-use crate::rules::Rules;
 use crate::verdict::TreeVerdict;
 use crate::walk::{Walk, visit};
 use std::alloc::Global;
@@ -22,6 +21,8 @@ use un_base::memory_error::NoMemory;
 use un_model::model::Model;
 use un_post::post::post;
 use un_prop::propagator::Scratch;
+use un_stand::room::first_room;
+use un_stand::rules::Rules;
 use un_tree::node::Tree;
 use un_tree::read::{Step, first_node};
 
@@ -38,7 +39,7 @@ fn begin(alloc: Global, rules: &Rules) -> Result<Walk, NoMemory>
 {
     let posted = post(alloc, rules.m, rules.limit)?;
     let scratch = Scratch::new(alloc, posted.store.len(), posted.horizon)?;
-    let room = first_room(alloc, posted)?;
+    let room = first_room(alloc, rules, posted)?;
     Ok(Walk {
         room,
         scratch,

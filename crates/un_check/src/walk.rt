@@ -1,23 +1,25 @@
 //! The check of a tree, node after node.
 
-ghost use Rattle.std.specs.Prelude.{◌≡◌, ◌≢◌, ◌+◌, ◌<◌, ℕ, List, ◌∷◌, MatchOption, OnOk, IfOk, true, false};
+ghost use Rattle.std.specs.Prelude.{◌≡◌, ◌+◌, ◌<◌, List, ◌∷◌, MatchOption, OnOk, IfOk};
 ghost use Rattle.un_tree.specs.Boxes.{reached};
 ghost use Rattle.un_tree.specs.Waits.{Whole, IsStrictIn, after};
 ghost use Rattle.un_tree.specs.declared.node.Node.{Node};
 ghost use Rattle.un_certificate.specs.Certificates.{root_of};
-ghost use Rattle.un_check.specs.Rooms.{CanCheck, HasScratch, IsAt, path_of, waits, waiting_at};
+ghost use Rattle.un_stand.specs.Rooms.{CanCheck, IsAt, path_of};
+ghost use Rattle.un_stand.specs.Turns.{waits, waiting_at};
+ghost use Rattle.un_check.specs.Judging.{HasScratch};
 ghost use Rattle.un_check.specs.Verdicts.{IsVerdict};
 ghost use Rattle.un_check.specs.Walks.{IsWalk, lowered};
 
 use crate::judge::{Judged, judge};
-use crate::room::{Room, go_down, turn};
-use crate::rules::Rules;
 use crate::verdict::TreeVerdict;
 use un_base::memory_error::NoMemory;
 use un_base::numbers::later;
 use un_prop::propagator::Scratch;
-use un_prop::side::Side;
-use un_tree::node::{Decision, Node};
+use un_stand::branch::branch_of;
+use un_stand::room::{Room, step};
+use un_stand::rules::Rules;
+use un_tree::node::Node;
 
 /// How far the check of a tree has come.
 #[derive(Drop)]
@@ -53,15 +55,8 @@ fn advance(rules: &Rules, room: &mut Room, node: Node) -> Result<bool, NoMemory>
     ensures waits { IfOk result (λ more. after node (Whole (reached (root_of rules.now.m.now) (path_of room.old)))
         (waits (root_of rules.now.m.now) (path_of room.old)) ≡ waiting_at (root_of rules.now.m.now) (path_of room.new) more) }
 {
-    match node {
-        Node::Branch { var, val } => {
-            let side = Side::AtMost;
-            go_down(rules, room, Decision { var, val, side })?;
-            Ok(true)
-        }
-        Node::Closed => turn(rules, room),
-        Node::Open => turn(rules, room),
-    }
+    let more = step(rules, room, branch_of(node))?;
+    Ok(more)
 }
 
 /// Goes on behind a node that keeps all points.

@@ -1,8 +1,10 @@
-use Rattle.un_check.proofs.JudgeLemmas.{cuts_box, branch_one, branch_empty, branch_kept}
+use Rattle.un_certificate.specs.Certificates.{root_of}
+use Rattle.un_stand.proofs.StandLemmas.{cuts_box}
+use Rattle.un_check.proofs.JudgeLemmas.{branch_one, branch_empty, branch_kept}
 use Rattle.un_check.proofs.judge.judge_branch.Goals as goal
 
 pub splits-requires : goal.splits-requires
-splits-requires c = let g = c.args.rules.now in (cuts_box g.m.now g.limit c.args.room.now c.requires.at c.requires.rules.full).1
+splits-requires c = let g = c.args.rules.now in (cuts_box (root_of g.m.now) c.args.room.now.stand c.requires.at.stand).1
 
 pub returns-then-not-splits-clause-judged : goal.returns-then-not-splits-clause-judged
 returns-then-not-splits-clause-judged c =

@@ -1,8 +1,17 @@
 use Rattle.std.proofs.Common.{refl, ap, subst, ◌∙◌, length}
 use Rattle.un_domains.specs.Sets.{NoneEmpty}
 use Rattle.un_certificate.proofs.Posting.{are_posted}
-use Rattle.un_check.proofs.BeginLemmas.{path_none, first_at, first_walk, all_room}
+use Rattle.un_check.proofs.BeginLemmas.{first_walk, all_room}
 use Rattle.un_check.proofs.tree.begin.Goals as goal
+
+pub first_room-requires-clause-posted : goal.first_room-requires-clause-posted
+first_room-requires-clause-posted c =
+    let g = c.args.rules.now in
+    let p = c.in_ok-posted.posted in
+    let e = c.in_ok-posted.ensures in
+    are_posted g.m.now g.limit p.props.items
+    (record { model = c.requires.model; extended = c.requires.extended; fit = c.requires.fit; options = c.requires.options })
+    e.asks e.tight
 
 pub returns-clause-rules : goal.returns-clause-rules
 returns-clause-rules c =
@@ -22,18 +31,6 @@ returns-clause-rules c =
       };
     }
 
-pub returns-clause-at : goal.returns-clause-at
-returns-clause-at c =
-    let g = c.args.rules.now in
-    let p = c.in_ok-posted.posted in
-    let e = c.in_ok-posted.ensures in
-    let r = c.in_ok-room.ensures in
-    first_at g.m.now g.limit (subst NoneEmpty e.sets e.live) p.props.items
-    (are_posted g.m.now g.limit p.props.items
-    (record { model = c.requires.model; extended = c.requires.extended; fit = c.requires.fit; options = c.requires.options })
-    e.asks e.tight) p.store.sets c.in_ok-room.room e.sets r.engine r.sets
-    r.marked r.live r.dead
-
 pub returns-clause-room : goal.returns-clause-room
 returns-clause-room c =
     let g = c.args.rules.now in
@@ -43,6 +40,4 @@ returns-clause-room c =
 
 pub returns-clause-walk : goal.returns-clause-walk
 returns-clause-walk c nodes =
-    let g = c.args.rules.now in
-    let r = c.in_ok-room.ensures in
-    first_walk g.m.now g.limit nodes _ (path_none c.in_ok-room.room.live.items c.in_ok-room.room.dead.items r.live r.dead) refl refl refl refl
+    let g = c.args.rules.now in first_walk g.m.now g.limit nodes _ c.in_ok-room.ensures.first refl refl refl refl

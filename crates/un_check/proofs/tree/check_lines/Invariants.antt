@@ -2,7 +2,8 @@
 use Rattle.std.proofs.Common.{◌≡◌, All, List, length}
 use Rattle.un_tree.specs.Texts.{Fits, tree_text}
 use Rattle.un_tree.specs.declared.node.Node.{Node}
-use Rattle.un_check.specs.Rooms.{IsAt, HasScratch}
+use Rattle.un_stand.specs.Rooms.{IsAt}
+use Rattle.un_check.specs.Judging.{HasScratch}
 use Rattle.un_check.proofs.LineLemmas.{IsLeft}
 use Rattle.un_check.proofs.tree.check_lines.Given as goal
 

@@ -1,6 +1,7 @@
 -- the nodes before were looked at
 use Rattle.std.proofs.Common.{drop}
-use Rattle.un_check.specs.Rooms.{IsAt, HasScratch}
+use Rattle.un_stand.specs.Rooms.{IsAt}
+use Rattle.un_check.specs.Judging.{HasScratch}
 use Rattle.un_check.specs.Walks.{IsWalk}
 use Rattle.un_check.proofs.tree.check_tree.Given as goal
 

@@ -2,8 +2,8 @@ use Rattle.std.proofs.Common.{ℕ, Some, sym, subst, ap, ◌∙◌}
 use Rattle.un_certificate.specs.Certificates.{root_of}
 use Rattle.un_tree.specs.Boxes.{reached}
 use Rattle.un_tree.specs.Waits.{Whole}
-use Rattle.un_check.specs.Judging.{IsJudged}
-use Rattle.un_check.specs.Rooms.{HasScratch, path_of}
+use Rattle.un_stand.specs.Rooms.{path_of}
+use Rattle.un_check.specs.Judging.{HasScratch, IsJudged}
 use Rattle.un_check.proofs.WalkLemmas.{broken, past_end, walk_other, walk_open}
 use Rattle.un_check.proofs.walk.visit.Goals as goal
 

@@ -1,0 +1,4 @@
+pub mod Paths
+pub mod RoomLemmas
+pub mod RouteLemmas
+pub mod StandLemmas

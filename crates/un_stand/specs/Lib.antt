@@ -1,0 +1,5 @@
+pub mod Engines
+pub mod Rooms
+pub mod Routes
+pub mod Stands
+pub mod Turns

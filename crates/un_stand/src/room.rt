@@ -1,0 +1,210 @@
+//! Where a walk over a model's tree stands: the box there, and what the rounds leave of it.
+
+ghost use Rattle.std.specs.Prelude.{◌≡◌, ◌≢◌, ◌<◌, ◌++◌, ◌∷◌, [], ℕ, Option, None, Some, true, false, OnOk, IfOk, IfSome, IfNone, All, length};
+ghost use Rattle.std.specs.Option.{option_to_list};
+ghost use Rattle.un_domains.specs.Sets.{NoneEmpty};
+ghost use Rattle.un_model.specs.declared.model.Model.{Model};
+ghost use Rattle.un_post.specs.Posts.{SpansAtMost, fix_at};
+ghost use Rattle.un_tree.specs.Boxes.{Splits, reached};
+ghost use Rattle.un_certificate.specs.Certificates.{root_of};
+ghost use Rattle.un_certificate.specs.Posted.{ArePosted};
+ghost use Rattle.un_stand.specs.Engines.{IsLeft, IsDecided};
+ghost use Rattle.un_stand.specs.Rooms.{CanCheck, IsAt, IsEndBy, path_of};
+ghost use Rattle.un_stand.specs.Routes.{paths_after};
+ghost use Rattle.un_stand.specs.Turns.{paths_behind, paths_at};
+
+use crate::rules::Rules;
+use crate::stand;
+use crate::stand::Stand;
+use std::alloc::Global;
+use un_base::ids::VarId;
+use un_base::memory_error::NoMemory;
+use un_engine::engine::Engine;
+use un_kinds::any::AnyProp;
+use un_post::post::Posted;
+use un_prop::run::Fix;
+use un_prop::side::Side;
+use un_tree::node::Decision;
+
+/// Where a walk over a model's tree stands. The rounds do not fail on the boxes that the first decisions make, and fail on those of
+/// the others.
+#[derive(Drop)]
+pub struct Room {
+    /// The box of all decisions.
+    pub stand: Stand,
+    /// At what the rounds leave of the box of the first decisions, with a mark for each; none where they fail on the first box.
+    pub engine: Option<Engine<AnyProp>>,
+}
+
+/// At the first box of what was posted.
+///
+/// # Errors
+/// Where memory is short.
+pub fn first_room(alloc: Global, rules: &Rules, posted: Posted) -> Result<Room, NoMemory>
+    requires posted { ArePosted rules.now.m.now rules.now.limit posted.props.items }
+    requires sets { posted.store.sets ≡ root_of rules.now.m.now }
+    requires spans { All (SpansAtMost posted.horizon) posted.props.items }
+    requires live { NoneEmpty posted.store.sets }
+    requires fresh { posted.store.marked ≡ [] }
+    ensures at { IfOk result (IsAt rules.now.m.now rules.now.limit) }
+    ensures first { IfOk result (λ room. path_of room ≡ []) }
+{
+    let _ = rules;
+    let cuts = posted.store.copy(alloc)?;
+    let stand = stand::first_stand(alloc, cuts);
+    let Posted {
+        props,
+        store,
+        horizon,
+        ..
+    } = posted;
+    let engine = Engine::new(alloc, props, store, horizon)?;
+    Ok(Room { stand, engine })
+}
+
+/// Whether the rounds fail on the box.
+pub fn is_lost(room: &Room) -> bool
+    ensures lost { result ≡ true → (m : Model) (limit : Option ℕ) → IsAt m limit room.now
+        → fix_at m limit (reached (root_of m) (path_of room.now)) ≡ None }
+    ensures rests { result ≡ false → (m : Model) (limit : Option ℕ) → IsAt m limit room.now
+        → fix_at m limit (reached (root_of m) (path_of room.now)) ≢ None }
+{
+    match &room.engine {
+        None => true,
+        Some(engine) => engine.store().marks() < room.stand.cuts.marks(),
+    }
+}
+
+/// Takes a decision in an engine. Answers whether the rounds do not fail on its side: where they do, the engine stays where it was.
+fn decide_in(engine: &mut Engine<AnyProp>, decision: Decision) -> Result<bool, NoMemory>
+    requires there { decision.var.0 < length engine.old.store.sets }
+    requires live { NoneEmpty engine.old.store.sets }
+    ensures { IfOk result (IsDecided decision engine.old engine.new) }
+{
+    let fix = engine.decide(decision.var, decision.val, decision.side)?;
+    match fix {
+        Fix::Stable => Ok(true),
+        Fix::Failed => {
+            engine.undo();
+            Ok(false)
+        }
+    }
+}
+
+/// Takes a decision in the engine, if the rounds do not fail on the box.
+fn enter(rules: &Rules, room: &mut Room, decision: Decision) -> Result<(), NoMemory>
+    requires rules { CanCheck rules.now }
+    requires at { IsAt rules.now.m.now rules.now.limit room.old }
+    requires split { Splits (reached (root_of rules.now.m.now) (path_of room.old)) decision.var decision.val }
+    ensures stand { OnOk result (room.new.stand ≡ room.old.stand) }
+    ensures end { OnOk result (IsEndBy rules.now.m.now rules.now.limit (path_of room.old ++ decision ∷ []) room.new.engine) }
+{
+    let _ = rules;
+    if is_lost(room) {
+        return Ok(());
+    }
+    match &mut room.engine {
+        None => Ok(()),
+        Some(engine) => {
+            decide_in(engine, decision)?;
+            Ok(())
+        }
+    }
+}
+
+/// Goes down to a side of the box.
+///
+/// # Errors
+/// Where memory is short; then the room is good for nothing but to be dropped.
+pub fn go_down(rules: &Rules, room: &mut Room, decision: Decision) -> Result<(), NoMemory>
+    requires rules { CanCheck rules.now }
+    requires at { IsAt rules.now.m.now rules.now.limit room.old }
+    requires split { Splits (reached (root_of rules.now.m.now) (path_of room.old)) decision.var decision.val }
+    ensures at { OnOk result (IsAt rules.now.m.now rules.now.limit room.new) }
+    ensures path { OnOk result (path_of room.new ≡ path_of room.old ++ decision ∷ []) }
+{
+    enter(rules, room, decision)?;
+    stand::go_down(&mut room.stand, decision)?;
+    Ok(())
+}
+
+/// Takes the last mark of an engine back, if the last decision was one of the first, on whose boxes the rounds do not fail.
+fn leave(engine: &mut Option<Engine<AnyProp>>, lost: bool)
+    requires { lost ≡ false → IfSome engine.old (λ e. 0 < length e.store.marked) }
+    ensures { IsLeft engine.old engine.new lost }
+{
+    if lost {
+        return;
+    }
+    match engine {
+        None => {}
+        Some(engine) => engine.undo(),
+    }
+}
+
+/// Takes the last decision back, and answers it.
+pub fn go_up(rules: &Rules, room: &mut Room) -> Option<Decision>
+    requires { IsAt rules.now.m.now rules.now.limit room.old }
+    ensures at { IsAt rules.now.m.now rules.now.limit room.new }
+    ensures path { path_of room.old ≡ path_of room.new ++ option_to_list result }
+    ensures none { IfNone result (path_of room.old ≡ []) }
+{
+    let _ = rules;
+    let lost = is_lost(room);
+    match stand::go_up(&mut room.stand) {
+        None => None,
+        Some(decision) => {
+            leave(&mut room.engine, lost);
+            Some(decision)
+        }
+    }
+}
+
+/// Goes up to the last decision for the side below, and down to the other side. Answers whether there was one.
+///
+/// # Errors
+/// Where memory is short; then the room is good for nothing but to be dropped.
+pub fn turn(rules: &Rules, room: &mut Room) -> Result<bool, NoMemory>
+    requires rules { CanCheck rules.now }
+    requires at { IsAt rules.now.m.now rules.now.limit room.old }
+    ensures at { OnOk result (IsAt rules.now.m.now rules.now.limit room.new) }
+    ensures waits { IfOk result (λ more. paths_behind [] (path_of room.old) ≡ paths_at (path_of room.new) more) }
+{
+    while let Some(decision) = go_up(rules, room) {
+        if let Side::AtMost = decision.side {
+            let other = Decision {
+                var: decision.var,
+                val: decision.val,
+                side: Side::Above,
+            };
+            go_down(rules, room, other)?;
+            return Ok(true);
+        }
+    }
+    Ok(false)
+}
+
+/// Goes on behind a node: down to the side below of its branch, or on to what waits. Answers whether there is more.
+///
+/// # Errors
+/// Where memory is short; then the room is good for nothing but to be dropped.
+pub fn step(rules: &Rules, room: &mut Room, branch: Option<(VarId, u32)>) -> Result<bool, NoMemory>
+    requires rules { CanCheck rules.now }
+    requires at { IsAt rules.now.m.now rules.now.limit room.old }
+    requires strict { IfSome branch (λ b. Splits (reached (root_of rules.now.m.now) (path_of room.old)) b.0 b.1) }
+    ensures at { OnOk result (IsAt rules.now.m.now rules.now.limit room.new) }
+    ensures waits { IfOk result (λ more. paths_after branch (path_of room.old) (paths_behind [] (path_of room.old))
+        ≡ paths_at (path_of room.new) more) }
+{
+    match branch {
+        None => {
+            let more = turn(rules, room)?;
+            Ok(more)
+        }
+        Some((var, val)) => {
+            let side = Side::AtMost;
+            go_down(rules, room, Decision { var, val, side })?;
+            Ok(true)
+        }
+    }
+}
