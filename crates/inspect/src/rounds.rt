@@ -9,7 +9,7 @@ ghost use Rattle.un_isa.specs.Fit.{IsFit};
 ghost use Rattle.un_model.specs.Options.{AreOptions};
 ghost use Rattle.un_model.specs.Variables.{IsModel};
 ghost use Rattle.un_post.specs.Posts.{ReadsFrom, SpansAtMost};
-ghost use Rattle.un_prop.specs.Sides.{side_test};
+ghost use Rattle.un_domains.specs.Sides.{side_test};
 
 use crate::node::{Decision, Node};
 use std::alloc::{AllocError, Global};
@@ -21,7 +21,7 @@ use un_engine::engine::Engine;
 use un_ir::text::put_text;
 use un_model::model::Model;
 use un_post::post::{Posted, post};
-use un_prop::side::Side;
+use un_domains::side::Side;
 use un_shown::domains::put_values;
 use un_shown::text::put_between;
 

@@ -12,7 +12,7 @@ use un_base::memory_error::NoMemory;
 use un_domains::store::Store;
 use un_engine::engine::Engine;
 use un_prop::propagator::Propagator;
-use un_prop::side::Side;
+use un_domains::side::Side;
 
 /// The middle of the values that a variable has.
 fn middle(store: &Store, v: VarId) -> u32

@@ -10,8 +10,8 @@ use Rattle.un_prop.specs.Rounds.{HasVars}
 use Rattle.un_domains.specs.Order.{Below}
 use Rattle.un_domains.specs.OrderLaws.{has_below, least_below, greatest_below}
 use Rattle.un_prop.specs.Nodes.{decide_by}
-use Rattle.un_prop.specs.declared.side.Side.{Side}
-use Rattle.un_prop.specs.declared.side.Side.TheVariants.{AtMost, Above}
+use Rattle.un_domains.specs.declared.side.Side.{Side}
+use Rattle.un_domains.specs.declared.side.Side.TheVariants.{AtMost, Above}
 use Rattle.un_tree.specs.Boxes.{half, Splits}
 use Rattle.un_tree.proofs.BoxLaws.{left_value, right_value, passes_some}
 

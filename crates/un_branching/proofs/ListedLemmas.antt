@@ -10,7 +10,7 @@ use Rattle.un_domains.specs.Sets.{Sets}
 use Rattle.un_base.specs.declared.ids.VarId.{VarId}
 use Rattle.un_tree.specs.declared.node.Node.{Node}
 use Rattle.un_tree.specs.declared.node.Node.TheVariants.{Branch, Closed, Open}
-use Rattle.un_prop.specs.declared.side.Side.TheVariants.{AtMost, Above}
+use Rattle.un_domains.specs.declared.side.Side.TheVariants.{AtMost, Above}
 use Rattle.un_tree.specs.Boxes.{half}
 use Rattle.un_tree.specs.Waits.{Waiting, Whole, Visit, after, IsWhole, visits}
 use Rattle.un_branching.specs.Growths.{Listed, one, count, follow}

@@ -3,7 +3,7 @@ use Rattle.std.specs.Prelude.{ℕ, zero, suc, ◌≡◌, ◌+◌, ◌<◌, cond,
 use Rattle.std.specs.Prelude.{Option, Some, None, IfSome}
 use Rattle.un_domains.specs.Sets.{Sets}
 use Rattle.un_base.specs.declared.ids.VarId.{VarId}
-use Rattle.un_prop.specs.declared.side.Side.{Side}
+use Rattle.un_domains.specs.declared.side.Side.{Side}
 use Rattle.un_tree.specs.declared.node.Node.{Node}
 use Rattle.un_tree.specs.declared.node.Node.TheVariants.{Branch, Closed, Open}
 use Rattle.un_branching.specs.declared.growth.Entry.{Entry}

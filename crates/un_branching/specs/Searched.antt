@@ -2,7 +2,7 @@
 use Rattle.std.specs.Prelude.{ℕ, ◌≡◌, List, None, MatchOption}
 use Rattle.std.specs.declared.option.Option.{Option}
 use Rattle.un_domains.specs.Sets.{Sets, IsSingle}
-use Rattle.un_prop.specs.declared.side.Side.TheVariants.{AtMost, Above}
+use Rattle.un_domains.specs.declared.side.Side.TheVariants.{AtMost, Above}
 use Rattle.un_tree.specs.Boxes.{half, Splits}
 use Rattle.un_tree.specs.Searched.{IsOpenBox, IsRefutation, IsStopped}
 use Rattle.un_branching.specs.declared.problem.Look.{Look}

@@ -12,7 +12,7 @@ use crate::open_nodes::{OpenNode, OpenNodes};
 use crate::problem::{Expansion, Look, Problem};
 use std::alloc::{AllocError, Global};
 use un_base::memory_error::NoMemory;
-use un_prop::side::Side;
+use un_domains::side::Side;
 use un_tree::node::{Node, Tree};
 
 /// What an attempt found: a solution, a tree without an open leaf, or a tree of all nodes that it was given, with the least cost

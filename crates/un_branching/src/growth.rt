@@ -7,7 +7,7 @@ ghost use Rattle.un_branching.specs.Growths.{link_at, link_to, box_under, IsEarl
 
 use std::alloc::{AllocError, Global};
 use un_base::ids::VarId;
-use un_prop::side::Side;
+use un_domains::side::Side;
 use un_tree::node::{Decision, Node, Tree};
 
 /// A node of a tree that grows.

@@ -24,7 +24,8 @@ use Rattle.un_tree.specs.Waits.{Waiting, Whole, Visit, IsStrict, after, visits, 
 use Rattle.un_tree.specs.declared.node.Node.{Node}
 use Rattle.un_tree.specs.declared.node.Node.TheVariants.{Branch, Closed, Open}
 use Rattle.un_certificate.specs.Bounds.{IsBound}
-use Rattle.un_certificate.specs.Certificates.{IsBelow, IsCertificate, IsStanding, root_of}
+use Rattle.un_certificate.specs.Certificates.{IsCertificate, IsStanding}
+use Rattle.un_model.specs.Boxes.{IsBelow, root_of}
 
 -- a number below the least cost of the members, where there is one, is below each member's cost
 module _ (m : Model) (b : Sets) (low : ℕ) (below : (l : ℕ) → IsLeast m b l → low ≤ l) where

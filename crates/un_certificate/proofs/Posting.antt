@@ -9,7 +9,7 @@ use Rattle.un_sites.specs.Befores.{all_postings_of}
 use Rattle.un_post.proofs.ExactProps.{exact_props}
 use Rattle.un_post.proofs.Ready.{posted_reads, posted_grounded, posted_fails}
 use Rattle.un_post.specs.Postable.{IsPostable}
-use Rattle.un_certificate.specs.Certificates.{root_of}
+use Rattle.un_model.specs.Boxes.{root_of}
 use Rattle.un_certificate.specs.Posted.{ArePosted}
 
 pub are_posted : (m : Model) (limit : Option ℕ) (ps : List AnyProp) → IsPostable m → map constraint_of ps ≡ all_postings_of m limit

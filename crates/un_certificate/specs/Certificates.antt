@@ -1,24 +1,16 @@
 -- What a tree says of a model under a limit on the cost, or under none.
-use Rattle.std.specs.Prelude.{ℕ, List, ⊤, All, map}
+use Rattle.std.specs.Prelude.{ℕ, List, ⊤, All}
 use Rattle.std.specs.declared.option.Option.{Option}
-use Rattle.un_domains.specs.Domains.{values_of}
 use Rattle.un_domains.specs.Sets.{Sets}
+use Rattle.un_model.specs.Boxes.{root_of, IsBelow}
 use Rattle.un_model.specs.declared.model.Model.{Model}
 use Rattle.un_bound.specs.Relaxations.{Times, IsMemberUnder, IsLeast}
-use Rattle.un_post.specs.Posts.{IsCheaper, fix_at}
+use Rattle.un_post.specs.Posts.{fix_at}
 use Rattle.un_tree.specs.Covered.{Stands}
 use Rattle.un_tree.specs.Searched.{IsTree}
 use Rattle.un_tree.specs.Waits.{Waiting, Whole, Visit, IsTreeOf, IsStrict, visits_of}
 use Rattle.un_tree.specs.declared.node.Node.{Node}
 use Rattle.un_tree.specs.declared.node.Node.TheVariants.{Branch, Closed, Open}
-
--- the first box: each variable has all values of its domain
-abbrev pub root_of : Model → Sets
-root_of m = map values_of m.domains
-
--- values that are a solution below the limit
-abbrev pub IsBelow : Model → Option ℕ → List ℕ → Type 0
-IsBelow m limit x = IsCheaper m limit (record { values = x })
 
 -- the relaxation of a box under the limit has no member
 abbrev pub IsEmptyUnder : Model → Option ℕ → Sets → Type 0

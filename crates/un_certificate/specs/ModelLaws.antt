@@ -19,7 +19,8 @@ use Rattle.un_bound.specs.Relaxations.{IsLeast}
 use Rattle.un_bound.proofs.Boxes.{least_rises}
 use Rattle.un_post.specs.Posts.{IsExact, IsGrounded, FailsWhereEmpty, fix_at}
 use Rattle.un_tree.specs.Boxes.{IsBox}
-use Rattle.un_certificate.specs.Certificates.{IsBelow, IsEmptyUnder, root_of}
+use Rattle.un_certificate.specs.Certificates.{IsEmptyUnder}
+use Rattle.un_model.specs.Boxes.{IsBelow, root_of}
 use Rattle.un_certificate.specs.Posted.{ArePosted, IsPosted}
 
 single_in : (f root : Sets) (x : List ℕ) → IsSingle x f → Below f root → IsIn x root

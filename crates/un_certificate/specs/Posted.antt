@@ -8,7 +8,7 @@ use Rattle.un_kinds.specs.Scopes.{IsTight}
 use Rattle.un_kinds.specs.declared.any.AnyProp.{AnyProp}
 use Rattle.un_sites.specs.Befores.{all_postings_of}
 use Rattle.un_post.specs.Posts.{IsExact, ReadsFrom, IsGrounded, FailsWhereEmpty, fix_at}
-use Rattle.un_certificate.specs.Certificates.{root_of}
+use Rattle.un_model.specs.Boxes.{root_of}
 
 -- propagators as they are posted for a model under a limit
 pub record ArePosted (m : Model) (limit : Option ℕ) (ps : List AnyProp) : Type 0 where

@@ -7,7 +7,7 @@ ghost use Rattle.un_post.specs.Postable.{IsPostable};
 ghost use Rattle.un_tree.specs.Waits.{Visit, visits_of};
 ghost use Rattle.un_tree.specs.declared.node.Node.{Node};
 ghost use Rattle.un_certificate.specs.Bounds.{IsBound, IsLeastOpen, IsLowestUnder};
-ghost use Rattle.un_certificate.specs.Certificates.{root_of};
+ghost use Rattle.un_model.specs.Boxes.{root_of};
 
 use un_bound::plain::plain_bound;
 use un_model::model::Model;

@@ -11,7 +11,8 @@ ghost use Rattle.un_model.specs.Variables.{IsModel};
 ghost use Rattle.un_model.specs.declared.model.Solution.{Solution};
 ghost use Rattle.un_tree.specs.Covered.{InOpen};
 ghost use Rattle.un_tree.specs.Waits.{visits_of};
-ghost use Rattle.un_certificate.specs.Certificates.{IsStanding, IsBelow, root_of};
+ghost use Rattle.un_certificate.specs.Certificates.{IsStanding};
+ghost use Rattle.un_model.specs.Boxes.{IsBelow, root_of};
 ghost use Rattle.un_certificate.specs.Bounds.{IsBound};
 
 use un_model::model::Model;

@@ -18,7 +18,7 @@ use Rattle.un_violations.proofs.Verdicts.{unbroken}
 use Rattle.un_problem.specs.Problems.{IsModelOf}
 use Rattle.un_tree.specs.Waits.{IsTreeOf, visits_of}
 use Rattle.un_tree.specs.declared.node.Node.{Node}
-use Rattle.un_certificate.specs.Certificates.{root_of}
+use Rattle.un_model.specs.Boxes.{root_of}
 use Rattle.un_report.specs.declared.report.Answered.{Answered}
 use Rattle.un_report.specs.declared.report.Answered.TheVariants.{Code, Infeasible, Spent}
 use Rattle.un_check.specs.Causes.{Claim, limit_of, IsFirstBroken, IsRightAnswer, IsCodeCause, IsAnswerCause, IsRightTree, IsTreeCause}

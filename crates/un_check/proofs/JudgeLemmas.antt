@@ -17,7 +17,8 @@ use Rattle.un_base.specs.declared.ids.VarId.{VarId}
 use Rattle.un_tree.specs.Boxes.{Splits, reached}
 use Rattle.un_tree.specs.Waits.{Whole}
 use Rattle.un_tree.specs.declared.node.Node.TheVariants.{Branch, Closed, Open}
-use Rattle.un_certificate.specs.Certificates.{IsEmptyUnder, root_of}
+use Rattle.un_certificate.specs.Certificates.{IsEmptyUnder}
+use Rattle.un_model.specs.Boxes.{root_of}
 use Rattle.un_stand.specs.Rooms.{IsAt, path_of}
 use Rattle.un_stand.specs.declared.room.Room.{Room}
 use Rattle.un_check.specs.Judging.{HasScratch, IsUnder, IsLeastUnder, IsJudged}

@@ -10,7 +10,8 @@ use Rattle.un_tree.specs.declared.node.Node.{Node}
 use Rattle.un_tree.specs.declared.node.Node.TheVariants.{Branch, Closed, Open}
 use Rattle.un_post.specs.Posts.{fix_at}
 use Rattle.un_tree.specs.Searched.{IsSearchedIn}
-use Rattle.un_certificate.specs.Certificates.{IsAliveIn, IsCertificate, root_of}
+use Rattle.un_certificate.specs.Certificates.{IsAliveIn, IsCertificate}
+use Rattle.un_model.specs.Boxes.{root_of}
 use Rattle.un_check.specs.Laws.{IsAccepting}
 use Rattle.un_check.specs.Verdicts.{Keeps, KeepsIn, IsLostIn, BreaksIn, IsFirstBreak, IsVerdict}
 use Rattle.un_check.specs.declared.verdict.TreeVerdict.{TreeVerdict}

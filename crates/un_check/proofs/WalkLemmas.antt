@@ -10,7 +10,7 @@ use Rattle.un_domains.specs.OrderLaws.{Below-refl}
 use Rattle.un_domains.specs.Sets.{Sets, NoneEmpty}
 use Rattle.un_model.specs.declared.model.Model.{Model}
 use Rattle.un_bound.specs.Relaxations.{IsLeast}
-use Rattle.un_prop.specs.declared.side.Side.TheVariants.{AtMost, Above}
+use Rattle.un_domains.specs.declared.side.Side.TheVariants.{AtMost, Above}
 use Rattle.un_tree.specs.Boxes.{IsBox, half, reached}
 use Rattle.un_tree.specs.Covered.{Stands}
 use Rattle.un_tree.specs.Searched.{HasAtLeast, HasLeast, IsLowest}
@@ -19,7 +19,8 @@ use Rattle.un_tree.specs.declared.node.Node.{Node}
 use Rattle.un_tree.specs.declared.node.Node.TheVariants.{Branch, Closed, Open}
 use Rattle.un_certificate.proofs.Lowest.{lower, other_least}
 use Rattle.un_certificate.specs.Bounds.{IsLeastOpen}
-use Rattle.un_certificate.specs.Certificates.{IsAlive, IsBelow, IsStanding, root_of}
+use Rattle.un_certificate.specs.Certificates.{IsAlive, IsStanding}
+use Rattle.un_model.specs.Boxes.{IsBelow, root_of}
 use Rattle.un_certificate.specs.ModelLaws.{posted_keeps}
 use Rattle.un_certificate.specs.Posted.{IsPosted}
 use Rattle.un_stand.specs.Rooms.{path_of}

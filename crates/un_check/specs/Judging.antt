@@ -13,7 +13,8 @@ use Rattle.un_tree.specs.Searched.{HasLeast}
 use Rattle.un_tree.specs.Waits.{Waiting}
 use Rattle.un_tree.specs.declared.node.Node.{Node}
 use Rattle.un_tree.specs.declared.node.Node.TheVariants.{Open}
-use Rattle.un_certificate.specs.Certificates.{IsEmptyUnder, root_of}
+use Rattle.un_certificate.specs.Certificates.{IsEmptyUnder}
+use Rattle.un_model.specs.Boxes.{root_of}
 use Rattle.un_check.specs.Verdicts.{KeepsIn, BreaksIn}
 use Rattle.un_check.specs.declared.judge.Judged.{Judged}
 use Rattle.un_check.specs.declared.judge.Judged.TheVariants.{Broken, Kept, Leaf}

@@ -8,7 +8,8 @@ use Rattle.un_tree.specs.Waits.{Waiting, Whole, Visit, IsTreeOf, IsStrictIn, vis
 use Rattle.un_tree.specs.declared.node.Node.{Node}
 use Rattle.un_tree.specs.declared.node.Node.TheVariants.{Branch, Closed, Open}
 use Rattle.un_certificate.specs.Bounds.{IsLeastOpen}
-use Rattle.un_certificate.specs.Certificates.{IsAliveIn, root_of}
+use Rattle.un_certificate.specs.Certificates.{IsAliveIn}
+use Rattle.un_model.specs.Boxes.{root_of}
 use Rattle.un_check.specs.declared.verdict.TreeVerdict.{TreeVerdict}
 use Rattle.un_check.specs.declared.verdict.TreeVerdict.TheVariants.{Yes, NotStrict, NotAlive, NotClosed, Short}
 

@@ -5,7 +5,7 @@ use Rattle.un_model.specs.declared.model.Model.{Model}
 use Rattle.un_tree.specs.Texts.{Fits, tree_text}
 use Rattle.un_tree.specs.Waits.{Visit, IsWhole, IsTreeOf, visits, visits_of, open_count}
 use Rattle.un_tree.specs.declared.node.Node.{Node}
-use Rattle.un_certificate.specs.Certificates.{root_of}
+use Rattle.un_model.specs.Boxes.{root_of}
 use Rattle.un_stand.specs.Rooms.{path_of}
 use Rattle.un_stand.specs.Turns.{waiting_at}
 use Rattle.un_certificate.specs.Bounds.{IsLeastOpen}

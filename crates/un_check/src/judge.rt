@@ -5,7 +5,7 @@ ghost use Rattle.un_domains.specs.Sets.{NoneEmpty};
 ghost use Rattle.un_bound.specs.Relaxations.{IsRelaxation};
 ghost use Rattle.un_tree.specs.Boxes.{Splits, reached};
 ghost use Rattle.un_tree.specs.Waits.{Whole};
-ghost use Rattle.un_certificate.specs.Certificates.{root_of};
+ghost use Rattle.un_model.specs.Boxes.{root_of};
 ghost use Rattle.un_stand.specs.Rooms.{CanCheck, IsAt, path_of};
 ghost use Rattle.un_check.specs.Judging.{HasScratch, IsJudged, IsUnder, IsLeastUnder};
 

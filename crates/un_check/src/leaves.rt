@@ -9,7 +9,8 @@ ghost use Rattle.un_tree.specs.Waits.{IsOdd, open_count, visits_of};
 ghost use Rattle.un_tree.specs.declared.node.Node.{Node};
 ghost use Rattle.un_tree.specs.declared.node.Node.TheVariants.{Open};
 ghost use Rattle.un_certificate.specs.Bounds.{IsLeastOpen};
-ghost use Rattle.un_certificate.specs.Certificates.{IsStanding, root_of};
+ghost use Rattle.un_certificate.specs.Certificates.{IsStanding};
+ghost use Rattle.un_model.specs.Boxes.{root_of};
 ghost use Rattle.un_check.specs.Causes.{FitsAnswer, HasRightBound, HasRightLeaves, IsRightHead, IsToldBy, IsTreeCause, limit_of};
 ghost use Rattle.un_check.specs.Verdicts.{IsVerdict, IsYes, OnYes};
 

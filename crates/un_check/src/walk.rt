@@ -4,7 +4,7 @@ ghost use Rattle.std.specs.Prelude.{◌≡◌, ◌+◌, ◌<◌, List, ◌∷◌
 ghost use Rattle.un_tree.specs.Boxes.{reached};
 ghost use Rattle.un_tree.specs.Waits.{Whole, IsStrictIn, after};
 ghost use Rattle.un_tree.specs.declared.node.Node.{Node};
-ghost use Rattle.un_certificate.specs.Certificates.{root_of};
+ghost use Rattle.un_model.specs.Boxes.{root_of};
 ghost use Rattle.un_stand.specs.Rooms.{CanCheck, IsAt, path_of};
 ghost use Rattle.un_stand.specs.Turns.{waits, waiting_at};
 ghost use Rattle.un_check.specs.Judging.{HasScratch};

@@ -16,3 +16,4 @@ pub mod SetLaws
 pub mod Sets
 pub mod ShapeLaws
 pub mod Shapes
+pub mod Sides

@@ -10,6 +10,7 @@ pub mod places;
 pub mod rows;
 pub mod scan;
 pub mod shape;
+pub mod side;
 pub mod store;
 pub mod trail;
 pub mod window;

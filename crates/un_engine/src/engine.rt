@@ -5,7 +5,7 @@ ghost use Rattle.std.specs.Prelude.{slice_index_or, slice_set};
 ghost use Rattle.un_domains.specs.Sets.{Sets, NoneEmpty, cut_by};
 ghost use Rattle.un_prop.specs.Rounds.{HasVars, fix_of};
 ghost use Rattle.un_prop.specs.Pruning.{IsFix};
-ghost use Rattle.un_prop.specs.Sides.{side_test};
+ghost use Rattle.un_domains.specs.Sides.{side_test};
 ghost use Rattle.un_engine.specs.Ends.{IsEnd, IsDeeper};
 
 use std::alloc::Global;
@@ -20,7 +20,7 @@ use un_prop::propagator::{Propagator, Scratch};
 use un_prop::queue::{Queue, measure, rest_all, wake_all};
 use un_prop::readers::Readers;
 use un_prop::run::Fix;
-use un_prop::side::Side;
+use un_domains::side::Side;
 
 /// Propagators with a store, and all that runs of them need. Where no set is empty, no propagator changes the sets. Contracts
 /// see the propagators, and the sets with their marks.

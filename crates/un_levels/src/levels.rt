@@ -10,7 +10,7 @@ use crate::rounds::{Choice, Rounds};
 use std::alloc::AllocError;
 use un_base::memory_error::NoMemory;
 use un_branching::problem::{Expansion, Look, Problem};
-use un_prop::side::Side;
+use un_domains::side::Side;
 use un_tree::node::Decision;
 
 /// Stores, and the decisions that lead to their sets.

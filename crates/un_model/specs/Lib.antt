@@ -1,5 +1,6 @@
 pub mod ArcLaws
 pub mod Arcs
+pub mod Boxes
 pub mod Congruences
 pub mod Cost
 pub mod Emission

@@ -21,7 +21,7 @@ use Rattle.un_sites.specs.Befores.{befores_of, lengths_of, all_postings_of}
 use Rattle.un_kinds.specs.Constraints.{AllMet}
 use Rattle.un_sites.specs.Postings.{postings_of}
 use Rattle.un_sites.specs.Pressures.{pressures_of}
-use Rattle.un_post.specs.Posts.{IsCheaper}
+use Rattle.un_model.specs.Boxes.{IsCheaper}
 use Rattle.un_sites.specs.Rooms.{rooms_of}
 use Rattle.un_post.proofs.Facts.{Given}
 use Rattle.un_post.proofs.Lengths.{lengths_met}

@@ -1,13 +1,11 @@
 -- What posting gives: exactly the solutions that cost less than the limit, and a failure of rounds where there is no relaxed one.
-use Rattle.std.specs.Prelude.{ℕ, ◌≡◌, ◌<◌, ◌≤◌, ◌↔◌, true, false, List, Option, None, IfSome, All, Contains, length, map, fold, max}
+use Rattle.std.specs.Prelude.{ℕ, ◌≡◌, ◌≤◌, ◌↔◌, true, false, List, Option, None, All, Contains, length, map, fold, max}
 use Rattle.un_base.specs.declared.ids.VarId.{VarId}
 use Rattle.un_domains.specs.Order.{Below}
 use Rattle.un_domains.specs.Sets.{Sets, IsIn, NoneEmpty, set_at}
 use Rattle.un_ir.specs.declared.extended.ExtBlock.{ExtBlock}
+use Rattle.un_model.specs.Boxes.{IsCheaper}
 use Rattle.un_model.specs.declared.model.Model.{Model}
-use Rattle.un_model.specs.declared.model.Solution.{Solution}
-use Rattle.un_model.specs.Cost.{cost_of}
-use Rattle.un_model.specs.Solutions.{IsSolution}
 use Rattle.un_model.specs.Variables.{own_horizon}
 use Rattle.un_prop.specs.Last.{point}
 use Rattle.un_prop.specs.Rounds.{HasVars, fix_of}
@@ -19,10 +17,6 @@ use Rattle.un_kinds.specs.Scopes.{vars_of}
 use Rattle.un_kinds.specs.declared.any.AnyProp.{AnyProp}
 use Rattle.un_sites.specs.Befores.{all_postings_of}
 use Rattle.un_sites.specs.Pressures.{pressures_of}
-
--- a solution that costs less than a limit, where there is one
-abbrev pub IsCheaper : Model → Option ℕ → Solution → Type 0
-IsCheaper m limit s = IsSolution m s × IfSome limit (λ n. cost_of m s < n)
 
 -- each propagator holds
 abbrev pub AllHold : List AnyProp → List ℕ → Type 0

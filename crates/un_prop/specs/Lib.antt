@@ -25,7 +25,6 @@ pub mod Pruning
 pub mod QueueLaws
 pub mod Queues
 pub mod Rounds
-pub mod Sides
 pub mod SingleLaws
 pub mod Somewhere
 pub mod SomewhereLaws

@@ -5,16 +5,16 @@ ghost use Rattle.un_domains.specs.Sets.{Sets, NoneEmpty, cut_by};
 ghost use Rattle.un_prop.specs.Rounds.{HasVars, fix_of};
 ghost use Rattle.un_prop.specs.Pruning.{IsFix, Ends, HasRoom};
 ghost use Rattle.un_prop.specs.Queues.{IsTable, IsReady, IsSizes, waits};
-ghost use Rattle.un_prop.specs.Sides.{side_test};
+ghost use Rattle.un_domains.specs.Sides.{side_test};
 
 use crate::changed::run_from;
 use crate::propagator::{Propagator, Pruned, Scratch};
 use crate::queue::{Queue, wake_changed};
 use crate::readers::Readers;
 use crate::run::Fix;
-use crate::side::Side;
 use crate::step::answer;
 use un_base::ids::VarId;
+use un_domains::side::Side;
 use un_domains::store::Store;
 use un_domains::trail::Words;
 

@@ -11,6 +11,5 @@ pub mod propagator;
 pub mod queue;
 pub mod readers;
 pub mod run;
-pub mod side;
 pub mod step;
 pub mod when;

@@ -1,23 +1,10 @@
 //! Words and numbers at the front of a text.
 
-ghost use Rattle.std.specs.Prelude.{◌≡◌, ◌≢◌, ℕ, ◌<◌, List, ◌∷◌, ◌++◌, All, IfSome, IfNone, IsTrue, ◌↔◌};
-ghost use Rattle.un_tree.specs.Texts.{IsCut};
+ghost use Rattle.std.specs.Prelude.{◌≡◌, ◌≢◌, ℕ, ◌<◌, List, ◌∷◌, ◌++◌, IfSome, IfNone, IsTrue, ◌↔◌};
 ghost use Rattle.un_report_reader.specs.Parts.{IsField, IsWithin, IsNumber};
 
 use un_base::decimal::read_decimal;
-
-/// What stands before the first byte `b`, and what stands behind it.
-fn cut(text: &[u8], b: u8) -> Option<(&[u8], &[u8])>
-    ensures some { IfSome result (λ parts. IsCut text.now b parts.0.now parts.1.now) }
-    ensures none { IfNone result (All (λ y. y ≢ b) text.now) }
-{
-    for (i, y) in text.iter().enumerate() {
-        if *y == b {
-            return Some((&text[..i], &text[i + 1..]));
-        }
-    }
-    None
-}
+use un_tree::line::cut;
 
 /// What stands behind these first bytes.
 pub(crate) fn after<'a>(text: &'a [u8], start: &[u8]) -> Option<&'a [u8]>

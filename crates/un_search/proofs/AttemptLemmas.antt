@@ -8,8 +8,8 @@ use Rattle.un_base.specs.declared.ids.VarId.{VarId}
 use Rattle.un_domains.specs.Cuts.{Contents}
 use Rattle.un_domains.specs.OrderLaws.{Below-refl, Below-trans}
 use Rattle.un_domains.specs.Sets.{Sets, NoneEmpty}
-use Rattle.un_prop.specs.declared.side.Side.{Side}
-use Rattle.un_prop.specs.declared.side.Side.TheVariants.{AtMost, Above}
+use Rattle.un_domains.specs.declared.side.Side.{Side}
+use Rattle.un_domains.specs.declared.side.Side.TheVariants.{AtMost, Above}
 use Rattle.un_model.specs.declared.model.Model.{Model}
 use Rattle.un_bound.specs.Relaxations.{IsLeast}
 use Rattle.un_post.specs.Posts.{fix_at, largest_horizon}
@@ -19,9 +19,10 @@ use Rattle.un_tree.specs.Waits.{Waiting, Whole, IsStrict, visits, visits_of}
 use Rattle.un_tree.specs.declared.node.Node.{Node}
 use Rattle.un_tree.specs.declared.node.Node.TheVariants.{Branch, Closed, Open}
 use Rattle.un_branching.proofs.BoxLemmas.{half_box}
-use Rattle.un_certificate.specs.Certificates.{IsAlive, IsBelow, IsCertificate, IsEmptyUnder, root_of}
+use Rattle.un_certificate.specs.Certificates.{IsAlive, IsCertificate, IsEmptyUnder}
+use Rattle.un_model.specs.Boxes.{IsBelow, root_of}
 use Rattle.un_domains.specs.Sets.{IsSingle}
-use Rattle.un_post.specs.Posts.{IsCheaper}
+use Rattle.un_model.specs.Boxes.{IsCheaper}
 use Rattle.un_branching.specs.Searched.{IsTried, IsByRoot as IsByBox}
 use Rattle.un_branching.specs.declared.attempt.Tried.{Tried as Answer}
 use Rattle.un_branching.specs.declared.attempt.Tried.TheVariants.{Found as Good, Refuted as Gone, Cut as Short}

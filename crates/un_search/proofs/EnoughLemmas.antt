@@ -8,7 +8,8 @@ use Rattle.un_tree.proofs.Volumes.{leaves_room}
 use Rattle.un_tree.specs.Waits.{Waiting, Whole, IsOdd, IsWhole, IsStrict, leaves, visits_of}
 use Rattle.un_tree.specs.declared.node.Node.{Node}
 use Rattle.un_tree.specs.declared.node.Node.TheVariants.{Branch, Closed, Open}
-use Rattle.un_certificate.specs.Certificates.{IsCertificate, root_of}
+use Rattle.un_certificate.specs.Certificates.{IsCertificate}
+use Rattle.un_model.specs.Boxes.{root_of}
 use Rattle.un_search.specs.Answers.{AreEnough, IsCutOff, IsRefuted, OnCut}
 use Rattle.un_search.specs.Solved.{HasNoOpenLeaf, IsCode, IsEnded, OnCode, OnInfeasible, OnOther, OnSpent}
 use Rattle.un_search.specs.declared.attempt.Tried.{Tried}

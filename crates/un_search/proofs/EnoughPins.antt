@@ -30,7 +30,7 @@ use Rattle.un_model.specs.declared.model.Model.{Model}
 use Rattle.un_model.specs.declared.model.Options.{Options}
 use Rattle.un_model.specs.Options.{AreOptions}
 use Rattle.un_tree.specs.Boxes.{volume}
-use Rattle.un_certificate.specs.Certificates.{root_of}
+use Rattle.un_model.specs.Boxes.{root_of}
 use Rattle.un_search.specs.Answers.{AreEnough}
 
 -- ---- the block

@@ -20,7 +20,7 @@ use Rattle.un_engine.specs.Engines.{State}
 use Rattle.un_tree.specs.declared.node.Decision.{Decision}
 use Rattle.un_levels.specs.Levels.{IsReady, Leveled, Sheet}
 use Rattle.un_certificate.proofs.Posting.{are_posted}
-use Rattle.un_certificate.specs.Certificates.{root_of}
+use Rattle.un_model.specs.Boxes.{root_of}
 use Rattle.un_certificate.specs.ModelLaws.{posted_inside}
 use Rattle.un_certificate.specs.Posted.{ArePosted, IsPosted}
 use Rattle.un_search.specs.Roots.{AreAtRoot, IsLost, IsRoot, IsRooted}

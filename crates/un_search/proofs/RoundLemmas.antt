@@ -15,7 +15,7 @@ use Rattle.un_prop.specs.Pruning.{HasRoom}
 use Rattle.un_prop.specs.declared.propagator.Scratch.{Scratch}
 use Rattle.un_domains.specs.Sets.{Sets, set_at, has, kept, cut_by, least, IsSingle, NoneEmpty}
 use Rattle.un_prop.specs.Pruning.{IsFix}
-use Rattle.un_prop.specs.Sides.{side_test}
+use Rattle.un_domains.specs.Sides.{side_test}
 use Rattle.un_prop.specs.declared.run.Fix.{Fix}
 use Rattle.un_prop.specs.declared.run.Fix.TheVariants.{Stable as Rests, Failed as Lost}
 use Rattle.un_kinds.specs.declared.any.AnyProp.{AnyProp}
@@ -24,7 +24,7 @@ use Rattle.un_post.specs.Posts.{fix_at}
 use Rattle.un_tree.specs.Boxes.{IsBox, decided}
 use Rattle.un_tree.specs.declared.node.Decision.{Decision}
 use Rattle.un_levels.specs.Levels.{IsEnd, IsRun}
-use Rattle.un_certificate.specs.Certificates.{root_of}
+use Rattle.un_model.specs.Boxes.{root_of}
 use Rattle.un_engine.proofs.EngineLaws.{all_snoc}
 use Rattle.un_bound.specs.declared.relax.RelaxAnswer.{RelaxAnswer}
 use Rattle.un_bound.specs.declared.relax.RelaxAnswer.TheVariants.{Empty, Least}
@@ -33,7 +33,7 @@ use Rattle.un_branching.specs.Searched.{IsLook}
 use Rattle.un_branching.specs.declared.problem.Look.{Look}
 use Rattle.un_branching.specs.declared.problem.Look.TheVariants.{Failed, Found, Open}
 use Rattle.un_tree.specs.Searched.{HasTwo}
-use Rattle.un_certificate.specs.Certificates.{IsBelow}
+use Rattle.un_model.specs.Boxes.{IsBelow}
 use Rattle.un_search.specs.Looks.{IsLookOf}
 use Rattle.un_certificate.specs.ModelLaws.{posted_inside, posted_single, posted_empty}
 use Rattle.un_certificate.specs.Posted.{ArePosted}

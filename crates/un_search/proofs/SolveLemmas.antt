@@ -16,7 +16,7 @@ use Rattle.un_tree.specs.declared.node.Node.TheVariants.{Open}
 use Rattle.un_certificate.proofs.Lowest.{bound_one, lowest_none}
 use Rattle.un_certificate.proofs.Lows.{bound_below, refuted, standing}
 use Rattle.un_certificate.specs.Bounds.{IsBound}
-use Rattle.un_certificate.specs.Certificates.{root_of}
+use Rattle.un_model.specs.Boxes.{root_of}
 use Rattle.un_search.specs.Answers.{IsLeftOfRoot, IsRefuted, IsCutOff}
 use Rattle.un_search.specs.Solved.{IsBest, IsByRounds, IsCode, IsEnded, OnCode, OnInfeasible}
 use Rattle.un_search.specs.declared.best.Best.{Best}

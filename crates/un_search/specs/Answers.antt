@@ -10,7 +10,8 @@ use Rattle.un_tree.specs.declared.node.Node.{Node}
 use Rattle.un_tree.specs.declared.node.Node.TheVariants.{Open}
 use Rattle.un_tree.specs.Searched.{IsLowest, IsOpenBox}
 use Rattle.un_tree.specs.Waits.{IsOdd, visits_of}
-use Rattle.un_certificate.specs.Certificates.{IsCertificate, root_of}
+use Rattle.un_certificate.specs.Certificates.{IsCertificate}
+use Rattle.un_model.specs.Boxes.{root_of}
 use Rattle.un_branching.specs.declared.attempt.Tried.{Tried as Answer}
 use Rattle.un_branching.specs.declared.attempt.Tried.TheVariants.{Found as Good, Refuted as Gone, Cut as Short}
 use Rattle.un_search.specs.declared.attempt.Tried.{Tried}

@@ -5,7 +5,7 @@ use Rattle.un_model.specs.declared.model.Model.{Model}
 use Rattle.un_post.specs.Lowered.{limit_place}
 use Rattle.un_post.specs.Postable.{IsPostable}
 use Rattle.un_post.specs.Posts.{fix_at}
-use Rattle.un_certificate.specs.Certificates.{root_of}
+use Rattle.un_model.specs.Boxes.{root_of}
 use Rattle.un_certificate.specs.Posted.{IsPosted}
 use Rattle.un_search.specs.Solved.{IsBest}
 use Rattle.un_search.specs.Stores.{AreStores}

@@ -9,7 +9,8 @@ use Rattle.un_tree.specs.declared.node.Node.{Node}
 use Rattle.un_tree.specs.declared.node.Node.TheVariants.{Open}
 use Rattle.un_tree.specs.Waits.{IsOdd, visits_of}
 use Rattle.un_certificate.specs.Bounds.{IsBound}
-use Rattle.un_certificate.specs.Certificates.{IsCertificate, root_of}
+use Rattle.un_certificate.specs.Certificates.{IsCertificate}
+use Rattle.un_model.specs.Boxes.{root_of}
 use Rattle.un_search.specs.Answers.{IsLeftOfRoot}
 use Rattle.un_search.specs.declared.best.Best.{Best}
 use Rattle.un_search.specs.declared.root.Incumbent.{Incumbent}

@@ -9,7 +9,7 @@ use Rattle.un_prop.specs.Pruning.{HasRoom}
 use Rattle.un_prop.specs.declared.propagator.Scratch.{Scratch}
 use Rattle.un_kinds.specs.declared.any.AnyProp.{AnyProp}
 use Rattle.un_post.specs.Posts.{largest_horizon}
-use Rattle.un_certificate.specs.Certificates.{root_of}
+use Rattle.un_model.specs.Boxes.{root_of}
 use Rattle.un_certificate.specs.Posted.{ArePosted}
 
 -- the propagators of a model, the sets that they leave and the sets of a box, which have the variables of the model, and room for looks

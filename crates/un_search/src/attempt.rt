@@ -6,7 +6,7 @@ ghost use Rattle.un_isa.specs.Fit.{IsFit};
 ghost use Rattle.un_model.specs.Options.{AreOptions};
 ghost use Rattle.un_model.specs.Variables.{IsModel};
 ghost use Rattle.un_post.specs.Postable.{IsPostable};
-ghost use Rattle.un_post.specs.Posts.{IsCheaper};
+ghost use Rattle.un_model.specs.Boxes.{IsCheaper};
 ghost use Rattle.un_tree.specs.declared.node.Node.TheVariants.{Closed};
 ghost use Rattle.un_search.specs.Answers.{OnFound, OnRefuted, OnCut, AreEnough, IsRefuted, IsCutOff, IsByRoot, IsAnswerOf};
 ghost use Rattle.un_search.specs.Roots.{AreAtRoot, IsLost, IsPosting, IsRoot};

@@ -12,7 +12,7 @@ use un_domains::store::Store;
 use un_engine::engine::Engine;
 use un_kinds::any::AnyProp;
 use un_prop::run::Fix;
-use un_prop::side::Side;
+use un_domains::side::Side;
 
 /// An engine in which no set is empty, and how many decisions may still be made. Contracts see its propagators, and the sets from which
 /// it went down.

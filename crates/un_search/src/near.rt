@@ -20,7 +20,7 @@ use un_base::ids::VarId;
 use un_base::memory_error::NoMemory;
 use un_first::first::judged;
 use un_model::model::{Model, Solution};
-use un_prop::side::Side;
+use un_domains::side::Side;
 
 /// How many cycles the windows have.
 const WIDTHS: [u32; 2] = [4, 8];

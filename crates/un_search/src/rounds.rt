@@ -9,7 +9,7 @@ ghost use Rattle.un_prop.specs.Pruning.{HasRoom};
 ghost use Rattle.un_model.specs.Variables.{IsModel};
 ghost use Rattle.un_bound.specs.Relaxations.{IsRelaxation};
 ghost use Rattle.un_post.specs.Posts.{largest_horizon};
-ghost use Rattle.un_certificate.specs.Certificates.{root_of};
+ghost use Rattle.un_model.specs.Boxes.{root_of};
 ghost use Rattle.un_search.specs.Looks.{IsLookOf};
 ghost use Rattle.un_certificate.specs.Posted.{IsPosted};
 
@@ -27,7 +27,7 @@ use un_levels::rounds::{Choice, Rounds};
 use un_model::model::Model;
 use un_prop::propagator::Scratch;
 use un_prop::run::Fix;
-use un_prop::side::Side;
+use un_domains::side::Side;
 use un_tree::node::Decision;
 
 /// The stores of a search at a node, with room for looks at them.
@@ -130,7 +130,7 @@ fn look_of(answer: RelaxAnswer) -> Look
 impl Rounds for ModelRounds<'_> {
     ghost use Rattle.un_bound.specs.Relaxations.{IsLeast};
     ghost use Rattle.un_post.specs.Posts.{fix_at};
-    ghost use Rattle.un_certificate.specs.Certificates.{IsBelow};
+    ghost use Rattle.un_model.specs.Boxes.{IsBelow};
     ghost use Rattle.un_search.specs.Stores.{AreStores};
     ghost use Rattle.un_certificate.specs.ModelLaws.{model_inside, model_keeps, model_parts, model_rises};
 

@@ -10,7 +10,7 @@ ghost use Rattle.un_model.specs.Variables.{IsModel};
 ghost use Rattle.un_model.specs.declared.model.Solution.{Solution};
 ghost use Rattle.un_bound.specs.Arcs.{IsShort};
 ghost use Rattle.un_certificate.specs.Bounds.{IsBound, IsLeastOpen};
-ghost use Rattle.un_certificate.specs.Certificates.{root_of};
+ghost use Rattle.un_model.specs.Boxes.{root_of};
 ghost use Rattle.un_post.specs.Postable.{IsPostable};
 ghost use Rattle.un_merges.specs.Merges.{HasNoMerge};
 ghost use Rattle.un_tree.specs.Waits.{visits_of};

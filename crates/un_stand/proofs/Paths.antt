@@ -6,8 +6,8 @@ use Rattle.std.specs.declared.option.Option.{Option}
 use Rattle.std.specs.Option.{option_to_list}
 use Rattle.un_domains.specs.Sets.{Sets, NoneEmpty}
 use Rattle.un_domains.specs.OrderLaws.{Below-refl, Below-trans}
-use Rattle.un_prop.specs.declared.side.Side.{Side}
-use Rattle.un_prop.specs.declared.side.Side.TheVariants.{AtMost, Above}
+use Rattle.un_domains.specs.declared.side.Side.{Side}
+use Rattle.un_domains.specs.declared.side.Side.TheVariants.{AtMost, Above}
 use Rattle.un_tree.specs.Boxes.{IsBox, half, Splits, decided, reached}
 use Rattle.un_tree.specs.declared.node.Decision.{Decision}
 use Rattle.un_branching.proofs.BoxLemmas.{half_box}

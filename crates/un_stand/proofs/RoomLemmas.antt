@@ -16,13 +16,13 @@ use Rattle.un_post.specs.Posts.{fix_at}
 use Rattle.un_prop.specs.Pruning.{IsFix}
 use Rattle.un_prop.specs.declared.run.Fix.TheVariants.{Stable as Rests, Failed as Lost}
 use Rattle.un_prop.specs.Rounds.{fix_of}
-use Rattle.un_prop.specs.Sides.{side_test}
+use Rattle.un_domains.specs.Sides.{side_test}
 use Rattle.un_tree.specs.Boxes.{IsBox, Splits, decided, reached}
 use Rattle.un_tree.specs.declared.node.Decision.{Decision}
 use Rattle.un_branching.proofs.BoxLemmas.{half_box}
 use Rattle.un_levels.specs.Levels.{Leveled}
 use Rattle.un_levels.proofs.LevelLemmas.{reached-append, leveled_end, leveled_push, leveled_pop, leveled_long}
-use Rattle.un_certificate.specs.Certificates.{root_of}
+use Rattle.un_model.specs.Boxes.{root_of}
 use Rattle.un_certificate.specs.ModelLaws.{posted_parts, posted_inside}
 use Rattle.un_certificate.specs.Posted.{ArePosted, IsPosted}
 use Rattle.un_stand.specs.Engines.{IsDecided, IsLeft, IsSame, IsUndone, side_end}

@@ -7,7 +7,7 @@ use Rattle.un_engine.specs.Engines.{State}
 use Rattle.un_kinds.specs.AnyProps.{cut_of}
 use Rattle.un_kinds.specs.declared.any.AnyProp.{AnyProp}
 use Rattle.un_prop.specs.Rounds.{fix_of}
-use Rattle.un_prop.specs.Sides.{side_test}
+use Rattle.un_domains.specs.Sides.{side_test}
 use Rattle.un_tree.specs.declared.node.Decision.{Decision}
 
 -- the last mark was taken back, where there is an engine

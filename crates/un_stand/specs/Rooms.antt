@@ -12,7 +12,7 @@ use Rattle.un_post.specs.Posts.{fix_at}
 use Rattle.un_tree.specs.Boxes.{decided, reached}
 use Rattle.un_tree.specs.declared.node.Decision.{Decision}
 use Rattle.un_levels.specs.Levels.{AtPath}
-use Rattle.un_certificate.specs.Certificates.{root_of}
+use Rattle.un_model.specs.Boxes.{root_of}
 use Rattle.un_certificate.specs.Posted.{ArePosted, IsPosted}
 use Rattle.un_stand.specs.Stands.{IsStandAt}
 use Rattle.un_stand.specs.declared.room.Room.{Room}

@@ -3,7 +3,7 @@ use Rattle.std.specs.Prelude.{ℕ, ◌≡◌, ◌+◌, List, [], ◌∷◌, ◌+
 use Rattle.std.specs.declared.option.Option.{Option}
 use Rattle.un_base.specs.declared.ids.VarId.{VarId}
 use Rattle.un_domains.specs.Sets.{Sets}
-use Rattle.un_prop.specs.declared.side.Side.TheVariants.{AtMost, Above}
+use Rattle.un_domains.specs.declared.side.Side.TheVariants.{AtMost, Above}
 use Rattle.un_tree.specs.Boxes.{reached}
 use Rattle.un_tree.specs.Waits.{Waiting, Whole, Visit}
 use Rattle.un_tree.specs.declared.node.Decision.{Decision}

@@ -1,8 +1,8 @@
 -- What waits behind a place on the way over a tree: the other sides of the decisions there, as paths and as boxes.
 use Rattle.std.specs.Prelude.{Bool, true, false, List, [], ◌∷◌, ◌++◌}
 use Rattle.un_domains.specs.Sets.{Sets}
-use Rattle.un_prop.specs.declared.side.Side.{Side}
-use Rattle.un_prop.specs.declared.side.Side.TheVariants.{AtMost, Above}
+use Rattle.un_domains.specs.declared.side.Side.{Side}
+use Rattle.un_domains.specs.declared.side.Side.TheVariants.{AtMost, Above}
 use Rattle.un_tree.specs.Boxes.{half, decided, reached}
 use Rattle.un_tree.specs.Waits.{Waiting, Whole}
 use Rattle.un_tree.specs.declared.node.Decision.{Decision}

@@ -6,7 +6,7 @@ ghost use Rattle.un_domains.specs.Sets.{NoneEmpty};
 ghost use Rattle.un_model.specs.declared.model.Model.{Model};
 ghost use Rattle.un_post.specs.Posts.{SpansAtMost, fix_at};
 ghost use Rattle.un_tree.specs.Boxes.{Splits, reached};
-ghost use Rattle.un_certificate.specs.Certificates.{root_of};
+ghost use Rattle.un_model.specs.Boxes.{root_of};
 ghost use Rattle.un_certificate.specs.Posted.{ArePosted};
 ghost use Rattle.un_stand.specs.Engines.{IsLeft, IsDecided};
 ghost use Rattle.un_stand.specs.Rooms.{CanCheck, IsAt, IsEndBy, path_of};
@@ -23,7 +23,7 @@ use un_engine::engine::Engine;
 use un_kinds::any::AnyProp;
 use un_post::post::Posted;
 use un_prop::run::Fix;
-use un_prop::side::Side;
+use un_domains::side::Side;
 use un_tree::node::Decision;
 
 /// Where a walk over a model's tree stands. The rounds do not fail on the boxes that the first decisions make, and fail on those of

@@ -38,17 +38,18 @@ use Rattle.un_post.proofs.Exact.{of_domains}
 use Rattle.un_post.proofs.ModelDomains.{domains_in_words}
 use Rattle.un_problem.specs.Problems.{IsProblemOf}
 use Rattle.un_prop.specs.Looks.{InWords}
-use Rattle.un_prop.specs.Sides.{side_test}
+use Rattle.un_domains.specs.Sides.{side_test}
 use Rattle.un_prop.specs.Steps.{kept_below}
-use Rattle.un_prop.specs.declared.side.Side.{Side}
-use Rattle.un_prop.specs.declared.side.Side.TheVariants.{AtMost, Above}
+use Rattle.un_domains.specs.declared.side.Side.{Side}
+use Rattle.un_domains.specs.declared.side.Side.TheVariants.{AtMost, Above}
 use Rattle.un_tree.specs.Boxes.{half}
 use Rattle.un_tree.specs.Texts.{Fits}
 use Rattle.un_tree.specs.Waits.{Waiting, Whole, visits, visits_of, IsWhole, IsStrict}
 use Rattle.un_tree.specs.declared.node.Node.{Node}
 use Rattle.un_tree.specs.declared.node.Node.TheVariants.{Branch, Closed, Open}
 use Rattle.un_base.specs.declared.ids.VarId.{VarId}
-use Rattle.un_certificate.specs.Certificates.{IsStanding, root_of}
+use Rattle.un_certificate.specs.Certificates.{IsStanding}
+use Rattle.un_model.specs.Boxes.{root_of}
 use Rattle.un_check.specs.Sound.{IsSoundAnswer, IsSoundFor}
 use Rattle.un_check.specs.Causes.{limit_of}
 use Rattle.un_report.specs.declared.report.Answered.{Answered}

@@ -8,8 +8,8 @@ use Rattle.un_domains.specs.Sets.{Sets, set_at, has, least, greatest, NoneEmpty}
 use Rattle.un_domains.specs.SetLaws.{has-filter}
 use Rattle.un_domains.specs.CutLaws.{kept_full}
 use Rattle.un_domains.specs.OrderLaws.{has_here, has_later}
-use Rattle.un_prop.specs.declared.side.Side.{Side}
-use Rattle.un_prop.specs.declared.side.Side.TheVariants.{AtMost, Above}
+use Rattle.un_domains.specs.declared.side.Side.{Side}
+use Rattle.un_domains.specs.declared.side.Side.TheVariants.{AtMost, Above}
 use Rattle.un_tree.specs.Boxes.{half, Splits, volume}
 
 low_value : (a x : ℕ) (xs : List ℕ) → fold min a xs ≤ x → (a ≤ x) ⊎ ((y : ℕ) × (has xs y ≡ true) × (y ≤ x))

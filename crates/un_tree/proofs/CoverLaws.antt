@@ -6,7 +6,7 @@ use Rattle.std.proofs.lemmas.Bool.Decides.{nat_tests}
 use Rattle.un_base.specs.declared.ids.VarId.{VarId}
 use Rattle.un_domains.specs.Sets.{Sets, IsIn}
 use Rattle.un_domains.specs.SetLaws.{IsIn-kept}
-use Rattle.un_prop.specs.declared.side.Side.TheVariants.{AtMost, Above}
+use Rattle.un_domains.specs.declared.side.Side.TheVariants.{AtMost, Above}
 use Rattle.un_tree.specs.Boxes.{half, Splits}
 use Rattle.un_tree.specs.Covered.{Stands, InOpen, InSome}
 use Rattle.un_tree.specs.Waits.{Waiting, Whole, visits, IsWhole, IsStrict}

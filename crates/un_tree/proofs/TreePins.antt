@@ -2,7 +2,7 @@
 use Rattle.std.proofs.Common.{ℕ, ◌≡◌, [], ◌∷◌, refl, arith}
 use Rattle.un_base.specs.declared.ids.VarId.{VarId}
 use Rattle.un_domains.specs.Sets.{Sets}
-use Rattle.un_prop.specs.declared.side.Side.TheVariants.{AtMost, Above}
+use Rattle.un_domains.specs.declared.side.Side.TheVariants.{AtMost, Above}
 use Rattle.un_tree.specs.Boxes.{half, reached, volume}
 use Rattle.un_tree.specs.Waits.{Whole, visits_of, IsTreeOf, IsStrictIn, leaves, open_count, IsOdd}
 use Rattle.un_tree.specs.declared.node.Node.TheVariants.{Branch, Closed, Open}

@@ -2,7 +2,7 @@
 use Rattle.std.proofs.Common.{ℕ, ◌≤◌, ◌+◌, List, [], ◌∷◌, arith}
 use Rattle.std.specs.List.{AllByRecursion}
 use Rattle.un_domains.specs.Sets.{NoneEmpty}
-use Rattle.un_prop.specs.declared.side.Side.TheVariants.{AtMost, Above}
+use Rattle.un_domains.specs.declared.side.Side.TheVariants.{AtMost, Above}
 use Rattle.un_tree.specs.Boxes.{half, volume}
 use Rattle.un_tree.proofs.BoxLaws.{half_full, volume_halves, volume_some}
 use Rattle.un_tree.specs.Waits.{Waiting, Whole, visits, IsWhole, IsStrict, leaves}

@@ -3,8 +3,8 @@ use Rattle.std.specs.Prelude.{ℕ, ◌<◌, ◌≤◌, ◌*◌, List, [], ◌∷
 use Rattle.un_base.specs.declared.ids.VarId.{VarId}
 use Rattle.un_domains.specs.Sets.{Sets, set_at, kept, least, greatest, NoneEmpty}
 use Rattle.un_domains.specs.Order.{Below}
-use Rattle.un_prop.specs.Sides.{side_test}
-use Rattle.un_prop.specs.declared.side.Side.{Side}
+use Rattle.un_domains.specs.Sides.{side_test}
+use Rattle.un_domains.specs.declared.side.Side.{Side}
 use Rattle.un_tree.specs.declared.node.Decision.{Decision}
 
 -- a side of a box

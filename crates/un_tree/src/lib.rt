@@ -2,7 +2,7 @@
 #![tactic(auto)]
 
 pub mod laws;
-mod line;
+pub mod line;
 pub mod node;
 pub mod print;
 pub mod read;

@@ -1,4 +1,4 @@
-//! The line of a node, read.
+//! The line of a node, read, and its parts.
 
 ghost use Rattle.std.specs.Prelude.{◌≡◌, ◌≢◌, ℕ, ◌<◌, ◌^◌, List, ◌∷◌, ◌++◌, All, IfSome, IfNone, codes, decimal};
 ghost use Rattle.un_base.specs.declared.ids.VarId.{VarId};
@@ -10,7 +10,7 @@ use un_base::decimal::read_decimal;
 use un_base::ids::VarId;
 
 /// What stands before the first byte `b`, and what stands behind it.
-pub(crate) fn cut(text: &[u8], b: u8) -> Option<(&[u8], &[u8])>
+pub fn cut(text: &[u8], b: u8) -> Option<(&[u8], &[u8])>
     ensures some { IfSome result (λ parts. IsCut text.now b parts.0.now parts.1.now) }
     ensures none { IfNone result (All (λ y. y ≢ b) text.now) }
 {
@@ -31,7 +31,7 @@ fn behind<'a>(line: &'a [u8], start: &[u8]) -> Option<&'a [u8]>
 }
 
 /// The number of 32 bits whose decimal text this is.
-fn number_of(text: &[u8]) -> Option<u32>
+pub fn number_of(text: &[u8]) -> Option<u32>
     ensures some { IfSome result (λ n. text.now ≡ decimal n) }
     ensures none { IfNone result ((n : ℕ) → n < 2 ^ 32 → text.now ≢ decimal n) }
 {

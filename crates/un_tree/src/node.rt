@@ -1,7 +1,7 @@
 //! Nodes, trees and decisions.
 
 use un_base::ids::VarId;
-use un_prop::side::Side;
+use un_domains::side::Side;
 
 /// A node of a tree.
 #[derive(Clone, Copy)]

@@ -1,4 +1,4 @@
-use Rattle.un_certificate.specs.Certificates.{root_of}
+use Rattle.un_model.specs.Boxes.{root_of}
 use Rattle.un_tree.specs.Waits.{visits_of}
 use Rattle.un_certificate.proofs.bound.bound_of.Goals as goal
 

@@ -1,5 +1,5 @@
 use Rattle.std.proofs.Common.{◌↔◌, IsTrue, nat_eq, sym, subst}
-use Rattle.un_certificate.specs.Certificates.{root_of}
+use Rattle.un_model.specs.Boxes.{root_of}
 use Rattle.un_report.specs.declared.report.Answered.{Answered}
 use Rattle.un_tree.specs.Waits.{visits_of}
 use Rattle.un_check.specs.Causes.{HasRightBound}

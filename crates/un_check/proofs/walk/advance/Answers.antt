@@ -1,7 +1,7 @@
 use Rattle.std.proofs.Common.{ℕ, [], ap, sym, ◌∙◌}
 use Rattle.std.specs.declared.option.Option.{Option}
 use Rattle.un_base.specs.declared.ids.VarId.{VarId}
-use Rattle.un_certificate.specs.Certificates.{root_of}
+use Rattle.un_model.specs.Boxes.{root_of}
 use Rattle.un_stand.specs.Rooms.{path_of}
 use Rattle.un_stand.specs.Routes.{paths_after}
 use Rattle.un_stand.specs.Turns.{paths_behind}

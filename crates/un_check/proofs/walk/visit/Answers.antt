@@ -1,5 +1,5 @@
 use Rattle.std.proofs.Common.{ℕ, Some, sym, subst, ap, ◌∙◌}
-use Rattle.un_certificate.specs.Certificates.{root_of}
+use Rattle.un_model.specs.Boxes.{root_of}
 use Rattle.un_tree.specs.Boxes.{reached}
 use Rattle.un_tree.specs.Waits.{Whole}
 use Rattle.un_stand.specs.Rooms.{path_of}

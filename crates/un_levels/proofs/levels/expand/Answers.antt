@@ -1,6 +1,6 @@
 use Rattle.std.proofs.Common.{◌∙◌, refl, sym, ap, subst}
 use Rattle.un_domains.specs.Sets.{Sets}
-use Rattle.un_prop.specs.declared.side.Side.TheVariants.{AtMost, Above}
+use Rattle.un_domains.specs.declared.side.Side.TheVariants.{AtMost, Above}
 use Rattle.un_tree.specs.Boxes.{half, reached, Splits}
 use Rattle.un_tree.specs.Searched.{HasTwo}
 use Rattle.un_branching.specs.Searched.{IsLook}

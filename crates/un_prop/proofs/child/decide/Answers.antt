@@ -3,8 +3,8 @@ use Rattle.std.proofs.lemmas.List.{length-set}
 use Rattle.un_domains.specs.Sets.{Sets, cut_by}
 use Rattle.un_prop.specs.Pruning.{Ends}
 use Rattle.un_prop.specs.GoingLaws.{cut_ends}
-use Rattle.un_prop.specs.Sides.{side_test}
-use Rattle.un_prop.specs.declared.side.Side.{Side}
+use Rattle.un_domains.specs.Sides.{side_test}
+use Rattle.un_domains.specs.declared.side.Side.{Side}
 use Rattle.un_prop.specs.declared.propagator.Pruned.{Pruned}
 use Rattle.un_prop.proofs.child.decide.Goals as goal
 

@@ -6,7 +6,7 @@ use Rattle.un_prop.specs.Pruning.{IsFix}
 use Rattle.un_prop.specs.declared.propagator.Pruned.TheVariants.{Same, Tighter}
 use Rattle.un_prop.specs.declared.run.Fix.TheVariants.{Stable, Failed as Lost}
 use Rattle.un_prop.proofs.RoundLaws.{left_of, none_of, room_kept}
-use Rattle.un_prop.specs.Sides.{side_test}
+use Rattle.un_domains.specs.Sides.{side_test}
 use Rattle.un_prop.specs.Nodes.{decide_by}
 use Rattle.un_prop.specs.Queues.{AllWait, IsSizes}
 use Rattle.un_prop.proofs.ChildLaws.{has_one, sizes_after, ready_next, fix_stable, child_fix}

@@ -1,5 +1,5 @@
 use Rattle.un_post.specs.Posts.{fix_at}
-use Rattle.un_certificate.specs.Certificates.{root_of}
+use Rattle.un_model.specs.Boxes.{root_of}
 use Rattle.un_search.proofs.AttemptLemmas.{answers, by_root, fresh_at}
 use Rattle.un_search.proofs.EnoughLemmas.{not_cut}
 use Rattle.un_search.proofs.RootLemmas.{back_at_root}

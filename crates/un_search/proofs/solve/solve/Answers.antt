@@ -7,7 +7,7 @@ use Rattle.un_tree.specs.declared.node.Node.{Node}
 use Rattle.un_search.specs.Answers.{IsRefuted}
 use Rattle.un_search.specs.Solved.{IsByRounds}
 use Rattle.un_search.specs.declared.root.Incumbent.{Incumbent}
-use Rattle.un_certificate.specs.Certificates.{root_of}
+use Rattle.un_model.specs.Boxes.{root_of}
 use Rattle.un_post.proofs.Ready.{posted_live}
 use Rattle.un_search.proofs.EnoughLemmas.{none_left_open, code_left_open}
 use Rattle.un_search.proofs.SolveLemmas.{none_left, on_code, on_infeasible, rounds_alone}

@@ -1,5 +1,5 @@
 use Rattle.std.proofs.Common.{Some, subst, arith}
-use Rattle.un_post.specs.Posts.{IsCheaper}
+use Rattle.un_model.specs.Boxes.{IsCheaper}
 use Rattle.un_search.specs.Answers.{IsRefuted, IsCutOff, OnFound, OnRefuted, OnCut}
 use Rattle.un_search.proofs.RootLemmas.{root_above}
 use Rattle.un_search.proofs.SolveLemmas.{closed_visits}

@@ -2,7 +2,7 @@ use Rattle.std.proofs.Common.{◌∷◌, ◌++◌, [], List, sym, subst, ap, ◌
 use Rattle.un_domains.specs.Sets.{Sets}
 use Rattle.un_tree.specs.Boxes.{Splits}
 use Rattle.un_tree.specs.declared.node.Decision.{Decision}
-use Rattle.un_certificate.specs.Certificates.{root_of}
+use Rattle.un_model.specs.Boxes.{root_of}
 use Rattle.un_stand.specs.Rooms.{IsEndBy}
 use Rattle.un_stand.specs.Stands.{IsStandAt}
 use Rattle.un_stand.specs.declared.stand.Stand.{Stand}

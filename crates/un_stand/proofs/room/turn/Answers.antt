@@ -1,5 +1,5 @@
 use Rattle.std.proofs.Common.{[], ◌∷◌, ap, ◌∙◌, length, length-append, arith}
-use Rattle.un_certificate.specs.Certificates.{root_of}
+use Rattle.un_model.specs.Boxes.{root_of}
 use Rattle.un_stand.specs.Rooms.{path_of}
 use Rattle.un_stand.specs.Turns.{paths_behind}
 use Rattle.un_stand.proofs.Paths.{behind_above, behind_below, with_option}

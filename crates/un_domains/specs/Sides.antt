@@ -1,7 +1,7 @@
 -- The sides of a decision.
 use Rattle.std.specs.Prelude.{ℕ, Bool, nat_le, nat_lt}
-use Rattle.un_prop.specs.declared.side.Side.{Side}
-use Rattle.un_prop.specs.declared.side.Side.TheVariants.{AtMost, Above}
+use Rattle.un_domains.specs.declared.side.Side.{Side}
+use Rattle.un_domains.specs.declared.side.Side.TheVariants.{AtMost, Above}
 
 -- whether a value is on a side of x
 abbrev pub side_test : Side → ℕ → ℕ → Bool
