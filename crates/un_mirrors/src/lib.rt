@@ -1,0 +1,2 @@
+//! Leaves that mirror the left side of a branch above them, and trees shortened by them.
+#![tactic(auto)]

@@ -1,0 +1,4 @@
+//! Trees with mirrors: a side that mirrors a finished one is one leaf. Their nodes, and their text, written and read.
+#![tactic(auto)]
+
+pub mod node;
