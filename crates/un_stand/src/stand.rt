@@ -11,8 +11,8 @@ ghost use Rattle.un_stand.specs.Routes.{paths_after};
 use std::alloc::Global;
 use un_base::ids::VarId;
 use un_base::memory_error::NoMemory;
-use un_domains::store::Store;
 use un_domains::side::Side;
+use un_domains::store::Store;
 use un_tree::node::Decision;
 
 /// Where a walk over a tree stands: it knows no model and no propagators.
