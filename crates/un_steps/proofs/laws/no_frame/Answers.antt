@@ -1,0 +1,8 @@
+use Rattle.un_steps.specs.Rules.{IsNoFrame}
+use Rattle.un_steps.proofs.NoFrame as rule
+use Rattle.un_steps.proofs.Solving.{of_operations}
+use Rattle.un_steps.proofs.laws.no_frame.Goals as goal
+
+pub returns : goal.returns
+returns c = of_operations c.args.m.now c.args.limit (λ m s p v y. IsNoFrame m s p v y) c.requires
+    (λ x h s inside q v y m goes is. let n = c.args.m.now in rule.no_frame n.ext n.options x h s inside q v y m goes is)

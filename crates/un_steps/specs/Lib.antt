@@ -1,0 +1,5 @@
+pub mod Allowed
+pub mod Found
+pub mod Keeping
+pub mod Rules
+pub mod Words
