@@ -1,5 +1,5 @@
 -- The lines of nodes of trees with mirrors: their bytes, and that each node has its own.
-use Rattle.std.proofs.Common.{◌≡◌, ◌≢◌, ℕ, ◌<◌, ◌^◌, List, [], ◌∷◌, ◌++◌, All, get_or, refl, sym, ap, ◌∙◌, codes, decimal, arith}
+use Rattle.std.proofs.Common.{◌≡◌, ◌≢◌, ℕ, ◌<◌, ◌^◌, List, [], ◌∷◌, ◌++◌, All, get_or, refl, ap, ◌∙◌, codes, decimal, arith}
 use Rattle.std.specs.List.{AllByRecursion}
 use Rattle.std.proofs.lemmas.Fmt.{decimal_injective}
 use Rattle.un_base.specs.declared.ids.VarId.{VarId}
@@ -141,27 +141,7 @@ mirror_parts line word numbers h a b d e =
     cut_parts line 32 word numbers (codes "M") (decimal a.0 ++ 32 ∷ (decimal b.0 ++ 32 ∷ decimal d)) h
     (letter_free 77 (λ k. omega (arith, k))) e
 
--- a line behind a B that has not the numbers of a Branch
-pub line_no_branch : (line word numbers : List ℕ) → line ≢ codes "C" → IsCut line 32 word numbers → word ≡ codes "B" → NoPair numbers
-    → NoSymLine line
-line_no_branch line word numbers closed h is none Closed fit e = closed e
-line_no_branch line word numbers closed h is none (Branch v x) fit e =
-    none v.0 x fit.0 fit.1 (branch_parts line word numbers h v x e).1
-line_no_branch line word numbers closed h is none (Mirror a b d) fit e =
-    let other : codes "B" ≡ codes "M" = sym is ∙ (mirror_parts line word numbers h a b d e).0 in
-    omega (arith, first_letter (codes "B") (codes "M") other)
-
--- one behind an M that has not those of a Mirror
-pub line_no_mirror : (line word numbers : List ℕ) → line ≢ codes "C" → IsCut line 32 word numbers → word ≡ codes "M" → NoThree numbers
-    → NoSymLine line
-line_no_mirror line word numbers closed h is none Closed fit e = closed e
-line_no_mirror line word numbers closed h is none (Branch v x) fit e =
-    let other : codes "M" ≡ codes "B" = sym is ∙ (branch_parts line word numbers h v x e).0 in
-    omega (arith, first_letter (codes "M") (codes "B") other)
-line_no_mirror line word numbers closed h is none (Mirror a b d) fit e =
-    none a.0 b.0 d fit.0 fit.1 fit.2 (mirror_parts line word numbers h a b d e).1
-
--- and one behind another word
+-- a line that begins with another word
 pub line_no_word : (line word numbers : List ℕ) → line ≢ codes "C" → IsCut line 32 word numbers → word ≢ codes "B" → word ≢ codes "M"
     → NoSymLine line
 line_no_word line word numbers closed h branch mirror Closed fit e = closed e

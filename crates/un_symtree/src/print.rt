@@ -27,13 +27,7 @@ fn put_pair(alloc: Global, out: &mut Vec<u8>, first: u32, second: u32) -> Result
 }
 
 /// Appends the numbers of a Mirror.
-fn put_mirror(
-    alloc: Global,
-    out: &mut Vec<u8>,
-    a: Reg,
-    b: Reg,
-    depth: u32,
-) -> Result<(), NoMemory>
+fn put_mirror(alloc: Global, out: &mut Vec<u8>, a: Reg, b: Reg, depth: u32) -> Result<(), NoMemory>
     ensures { OnOk result (out.new.items ≡ out.old.items ++ (decimal a.0 ++ (codes " " ++ (decimal b.0 ++ (codes " " ++ decimal depth))))) }
 {
     write_decimal(alloc, out, u64::from(a.0))?;
