@@ -21,7 +21,8 @@ no_feed : (n : ℕ) → n < 2 ^ 32 → AllByRecursion (λ y. y ≢ 10) (decimal 
 no_feed n fit = digits_apart 10 n (omega arith) (omega (arith, fit))
 
 -- nor has a number with a space behind it, before what has none
-spaced_free : (n : ℕ) (rest : List ℕ) → n < 2 ^ 32 → AllByRecursion (λ y. y ≢ 10) rest → AllByRecursion (λ y. y ≢ 10) (decimal n ++ 32 ∷ rest)
+spaced_free : (n : ℕ) (rest : List ℕ) → n < 2 ^ 32 → AllByRecursion (λ y. y ≢ 10) rest
+    → AllByRecursion (λ y. y ≢ 10) (decimal n ++ 32 ∷ rest)
 spaced_free n rest fit free = all_append (λ y. y ≢ 10) (decimal n) (32 ∷ rest) (no_feed n fit) ((λ e. omega (arith, e)), free)
 
 pub sym_free : (n : SymNode) → SymFits n → AllByRecursion (λ y. y ≢ 10) (sym_line n)
@@ -59,7 +60,8 @@ branch_once v w x y f g e =
     ap (λ (n : ℕ). Branch (record { 0 = n }) x) vars.0 ∙ ap (Branch w) vals
 
 mirror_once : (a b x y : Reg) (d e : ℕ) → SymFits (Mirror a b d) → SymFits (Mirror x y e)
-    → decimal a.0 ++ 32 ∷ (decimal b.0 ++ 32 ∷ decimal d) ≡ decimal x.0 ++ 32 ∷ (decimal y.0 ++ 32 ∷ decimal e) → Mirror a b d ≡ Mirror x y e
+    → decimal a.0 ++ 32 ∷ (decimal b.0 ++ 32 ∷ decimal d) ≡ decimal x.0 ++ 32 ∷ (decimal y.0 ++ 32 ∷ decimal e)
+    → Mirror a b d ≡ Mirror x y e
 mirror_once a b x y d e f g is =
     let first = spaced_once a.0 x.0 (decimal b.0 ++ 32 ∷ decimal d) (decimal y.0 ++ 32 ∷ decimal e) f.0 g.0 is in
     let second = spaced_once b.0 y.0 (decimal d) (decimal e) f.1 g.1 first.1 in
@@ -81,8 +83,8 @@ sym_line_once (Mirror a b d) (Mirror x y k) f g e = mirror_once a b x y d k f g 
 -- ---- texts that are not numbers with spaces between
 
 -- a text that is cut at a space, where a number stands before one
-pub spaced_parts : (text first rest : List ℕ) → IsCut text 32 first rest → (n : ℕ) (more : List ℕ) → n < 2 ^ 32 → text ≡ decimal n ++ 32 ∷ more
-    → (first ≡ decimal n) × (rest ≡ more)
+pub spaced_parts : (text first rest : List ℕ) → IsCut text 32 first rest → (n : ℕ) (more : List ℕ) → n < 2 ^ 32
+    → text ≡ decimal n ++ 32 ∷ more → (first ≡ decimal n) × (rest ≡ more)
 spaced_parts text first rest h n more fit e =
     cut_parts text 32 first rest (decimal n) more h (digits_apart 32 n (omega arith) (omega (arith, fit))) e
 

@@ -35,7 +35,8 @@ sym_nodes_once [] [] a b f g long e = (refl, e)
 sym_nodes_once [] (m ∷ ms) a b f g long e = absurd (omega (arith, long))
 sym_nodes_once (n ∷ ns) [] a b f g long e = absurd (omega (arith, long))
 sym_nodes_once (n ∷ ns) (m ∷ ms) a b f g long e =
-    let first = sym_first_once n m (sym_text ns ++ a) (sym_text ms ++ b) f.0 g.0 (sym (sym_text_cons n ns a) ∙ (e ∙ sym_text_cons m ms b)) in
+    let first = sym_first_once n m (sym_text ns ++ a) (sym_text ms ++ b) f.0 g.0
+    (sym (sym_text_cons n ns a) ∙ (e ∙ sym_text_cons m ms b)) in
     let next = sym_nodes_once ns ms a b f.1 g.1 (omega (arith, long)) first.1 in
     (ap (λ (k : SymNode). k ∷ ns) first.0 ∙ ap (λ (ks : List SymNode). m ∷ ks) next.0, next.1)
 
