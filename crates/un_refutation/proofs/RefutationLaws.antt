@@ -1,5 +1,5 @@
 -- Refutations are told by their texts, no line of one is bad, and what is read part by part is one.
-use Rattle.std.proofs.Common.{◌≡◌, ℕ, ◌+◌, ◌-◌, ◌^◌, inl, inr, List, [], ◌++◌, Result, Ok, Err, IfOk, IfErr, codes, length}
+use Rattle.std.proofs.Common.{◌≡◌, ℕ, ◌+◌, ◌-◌, ◌^◌, inl, inr, List, [], ◌++◌, All, Result, Ok, Err, IfOk, IfErr, codes, length}
 use Rattle.std.proofs.Common.{refl, sym, ap, ◌∙◌, subst, arith}
 use Rattle.un_commands.specs.Settings.{IsCountOfNodes}
 use Rattle.un_commands.specs.declared.command.TheConstants.{MOST_NODES}
@@ -47,13 +47,14 @@ at_name name o nodes = function_text name ++ at_options o nodes
 -- ---- no line is bad
 
 none_at_end : (line : ℕ) → InEnd (codes "end\n") line → ⊥
-none_at_end line bad = good_line IsPlain end_text (λ v. InNothing) end_once tt (codes "end\n") [] line tt refl (λ k nothing. nothing.0 refl) bad
+none_at_end line bad =
+    good_line IsPlain end_text (λ v. InNothing) end_once tt (codes "end\n") [] line tt refl (λ k nothing. nothing.0 refl) bad
 
 none_at_nodes : (nodes : List SymNode) (line : ℕ) → All SymFits nodes → InNodes (length nodes) (at_nodes nodes) line → ⊥
 none_at_nodes nodes line fit (inl own) = no_bad_node (length nodes) nodes (codes "end\n") (at_nodes nodes) line (refl, fit) refl own
 none_at_nodes nodes line fit (inr behind) =
-    good_behind (AreNodes (length nodes)) sym_text length (λ ns. InEnd) (nodes_once (length nodes)) nodes (at_nodes nodes) (codes "end\n") line
-    (refl, fit) refl none_at_end behind
+    good_behind (AreNodes (length nodes)) sym_text length (λ ns. InEnd) (nodes_once (length nodes)) nodes (at_nodes nodes)
+    (codes "end\n") line (refl, fit) refl none_at_end behind
 
 pub none_bad : (text : List ℕ) (r : Refutation) (line : ℕ) → IsRefutation r → text ≡ text_of r → IsFirstBad text line → ⊥
 none_bad text r line good is bad =
@@ -62,8 +63,8 @@ none_bad text r line good is bad =
     let in_count = λ (k : ℕ) (b : InCount (at_count nodes) k).
     good_line IsCountOfNodes count_text InNodes count_once (length nodes) (at_count nodes) (at_nodes nodes) k good.count refl in_nodes b in
     let in_options = λ (k : ℕ) (b : InOptions (at_options r.options nodes) k).
-    good_line AreOptions options_text (λ o. InCount) options_once r.options (at_options r.options nodes) (at_count nodes) k good.options refl
-    in_count b in
+    good_line AreOptions options_text (λ o. InCount) options_once r.options (at_options r.options nodes) (at_count nodes) k
+    good.options refl in_count b in
     let in_name = λ (k : ℕ) (b : InName (at_name r.name r.options nodes) k).
     good_line IsName function_text (λ n. InOptions) function_once r.name (at_name r.name r.options nodes) (at_options r.options nodes) k
     good.name refl in_options b in
@@ -99,8 +100,8 @@ error_at_start text at (BadReport line) same none h =
     subst (λ (t : List ℕ). IsFirstBad t line) same (subst (λ (n : ℕ). IsFirstBad at.rest.now n) here h.is_bad)
 
 -- a line of the limit itself, and one behind it
-pub in_limit : (text : List ℕ) (at : Place) (e : ReportError) → at.rest.now ≡ text → at.lines ≡ 0 → IsErrorAt (IsBadLine IsLong limit_text) at e
-    → IsErrorOf text e
+pub in_limit : (text : List ℕ) (at : Place) (e : ReportError) → at.rest.now ≡ text → at.lines ≡ 0
+    → IsErrorAt (IsBadLine IsLong limit_text) at e → IsErrorOf text e
 in_limit text at e same none bad = error_at_start text at e same none (in_line IsLong limit_text (λ limit. InName) at e bad)
 
 past_limit : (text : List ℕ) (at : Place) (limit : ℕ) (second : Place) (e : ReportError) → at.rest.now ≡ text → at.lines ≡ 0
@@ -145,7 +146,8 @@ pub own_end : (at : Place) (count : ℕ) (next : Place) (nodes : List SymNode) (
     → IsRead IsCountOfNodes count_text one at count next → IsRead (AreNodes count) sym_text length next nodes last → IsErrorAt InEnd last e
     → IsErrorAt InCount at e
 own_end at count next nodes last e r s bad =
-    past_line IsCountOfNodes count_text InNodes at count next r e (through (AreNodes count) sym_text length InEnd (InNodes count) next nodes last s
+    past_line IsCountOfNodes count_text InNodes at count next r e
+    (through (AreNodes count) sym_text length InEnd (InNodes count) next nodes last s
     (λ text rest line g whole b. inr (record {
       value = nodes;
       rest = rest;
@@ -158,8 +160,8 @@ own_end at count next nodes last e r s bad =
 
 -- ---- what is read part by part
 
-pub refutation_read : (text : List ℕ) (at : Place) (limit : ℕ) (second : Place) (name : List ℕ) (third : Place) (o : Options) (fourth : Place)
-    (count : ℕ) (fifth : Place) (nodes : List SymNode) (last : Place) (r : Refutation) → at.rest.now ≡ text
+pub refutation_read : (text : List ℕ) (at : Place) (limit : ℕ) (second : Place) (name : List ℕ) (third : Place) (o : Options)
+    (fourth : Place) (count : ℕ) (fifth : Place) (nodes : List SymNode) (last : Place) (r : Refutation) → at.rest.now ≡ text
     → IsRead IsLong limit_text one at limit second → IsRead IsName function_text one second name third
     → IsRead AreOptions options_text one third o fourth → IsRead IsCountOfNodes count_text one fourth count fifth
     → IsRead (AreNodes count) sym_text length fifth nodes last → last.rest.now ≡ end_text tt
@@ -186,7 +188,8 @@ refutation_read text at limit second name third o fourth count fifth nodes last 
     whole = l.whole ∙ ap (λ (x : List ℕ). limit_text limit ++ x)
         (n.whole ∙ ap (λ (x : List ℕ). function_text name ++ x) (p.whole ∙ ap (λ (x : List ℕ). options_text o ++ x) count_left))
 
-    made : r.limit ≡ limit → r.name ≡ name → r.options ≡ o → r.tree.nodes.items ≡ nodes → text_of r ≡ limit_text limit ++ at_name name o nodes
+    made : r.limit ≡ limit → r.name ≡ name → r.options ≡ o → r.tree.nodes.items ≡ nodes
+        → text_of r ≡ limit_text limit ++ at_name name o nodes
     made limits names options trees =
         ap (λ (k : ℕ). limit_text k ++ at_name r.name r.options r.tree.nodes.items) limits
         ∙ (ap (λ (x : List ℕ). limit_text limit ++ at_name x r.options r.tree.nodes.items) names

@@ -52,11 +52,12 @@ well_set = record { regs = tt; slots = omega arith }
 behind_three : (rest : List ℕ) (line : ℕ) → InCount rest line → IsFirstBad (head ++ rest) (1 + (1 + (1 + line)))
 unfolding digits
 behind_three rest line bad =
-    behind_line IsLong limit_text (λ limit. InName) 1 (head ++ rest) (codes "function f\nmodel regs all slots 256\n" ++ rest) (1 + (1 + line))
-    (omega arith, omega arith) refl
+    behind_line IsLong limit_text (λ limit. InName) 1 (head ++ rest)
+    (codes "function f\nmodel regs all slots 256\n" ++ rest) (1 + (1 + line)) (omega arith, omega arith) refl
     (behind_line IsName function_text (λ name. InOptions) (codes "f") (codes "function f\nmodel regs all slots 256\n" ++ rest)
     (codes "model regs all slots 256\n" ++ rest) (1 + line) refl refl
-    (behind_line AreOptions options_text (λ o. InCount) all_registers (codes "model regs all slots 256\n" ++ rest) rest line well_set refl bad))
+    (behind_line AreOptions options_text (λ o. InCount) all_registers (codes "model regs all slots 256\n" ++ rest) rest line well_set
+    refl bad))
 
 -- behind a tree of one node
 behind_node : (rest : List ℕ) (line : ℕ) → InEnd rest line → InCount (codes "nodes 1\nC\n" ++ rest) (1 + (1 + line))

@@ -1,33 +1,19 @@
-//! The lines of the function's name and of the options of its model, read.
+//! The line of the options of a model, read.
 
 ghost use Rattle.std.specs.Prelude.{◌≡◌, ◌≢◌, ℕ, List, ◌++◌, IfOk, IfErr, IfSome, IfNone};
 ghost use Rattle.un_model.specs.declared.model.Options.{Options};
 ghost use Rattle.un_model.specs.Options.{AreOptions};
 ghost use Rattle.un_report_reader.specs.Errors.{IsErrorAt, IsRead};
 ghost use Rattle.un_report_reader.specs.FirstBad.{IsBadLine};
-ghost use Rattle.un_report_reader.specs.Lines.{one, IsName, function_text};
+ghost use Rattle.un_report_reader.specs.Lines.{one};
 ghost use Rattle.un_refutation.specs.Refutations.{options_text};
 
-use un_base::name::Name;
 use un_isa::reg::SLOTS;
 use un_model::model::Options;
 use un_report_reader::cut::{field, number};
 use un_report_reader::error::ReportError;
-use un_report_reader::head::{name_line, regs_of};
+use un_report_reader::head::regs_of;
 use un_report_reader::place::{Place, bad_line, behind};
-
-/// The name of the function, from its line.
-pub(crate) fn read_name(at: Place) -> Result<(Name, Place), ReportError>
-    ensures ok { IfOk result (λ p. IsRead IsName function_text one at.entry p.0 p.1) }
-    ensures bad { IfErr result (IsErrorAt (IsBadLine IsName function_text) at.entry) }
-{
-    let (bytes, next) = name_line(at)?;
-    match Name::from_bytes(bytes) {
-        Some(name) => Ok((name, next)),
-        // The line has nothing but a name.
-        None => Err(ReportError::NoMemory),
-    }
-}
 
 /// The options with whose line a text begins, and what is left behind that.
 fn options_in(text: &[u8]) -> Option<(Options, &[u8])>

@@ -1,20 +1,33 @@
 //! Refutations from their texts.
 
 ghost use Rattle.std.specs.Prelude.{◌≡◌, IfOk, IfErr};
+ghost use Rattle.un_report_reader.specs.Lines.{IsName};
 ghost use Rattle.un_refutation.specs.declared.refutation.Refutation.{Refutation};
 ghost use Rattle.un_refutation.specs.Refutations.{text_of};
 ghost use Rattle.un_refutation.specs.Readings.{IsRefutation, IsRefutationRead, IsErrorOf, IsRefutationBack};
 
-use crate::options::{read_name, read_options};
+use crate::options::read_options;
 use crate::refutation::Refutation;
 use crate::tree::read_nodes;
 use std::alloc::Global;
+use un_base::name::Name;
 use un_commands::command::MOST_NODES;
 use un_report_reader::error::ReportError;
-use un_report_reader::head::number_line;
+use un_report_reader::head::{name_line, number_line};
 use un_report_reader::place::Place;
 use un_report_reader::tree::end;
 use un_symtree::node::SymTree;
+
+/// The name with these bytes, which are one.
+fn name_from(bytes: &[u8]) -> Name
+    requires { IsName bytes.now }
+    ensures { result ≡ bytes.now }
+{
+    match Name::from_bytes(bytes) {
+        Some(name) => name,
+        None => unreachable!(),
+    }
+}
 
 /// The refutation whose text this is.
 fn refutation(alloc: Global, text: &[u8]) -> Result<Refutation, ReportError>
@@ -26,14 +39,14 @@ fn refutation(alloc: Global, text: &[u8]) -> Result<Refutation, ReportError>
         lines: 0,
     };
     let (limit, at) = number_line(at, b"refuted ", 0, u64::MAX)?;
-    let (name, at) = read_name(at)?;
+    let (name, at) = name_line(at)?;
     let (options, at) = read_options(at)?;
     let (count, at) = number_line(at, b"nodes ", 1, MOST_NODES as u64)?;
     let (nodes, at) = read_nodes(alloc, at, count as u32)?;
     end(at)?;
     Ok(Refutation {
         limit,
-        name,
+        name: name_from(name),
         options,
         tree: SymTree { nodes },
     })

@@ -40,4 +40,4 @@ returns-in_err-end-clause-bad c =
 pub returns-clause-ok : goal.returns-clause-ok
 returns-clause-ok c =
     refutation_read c.args.text.now _ _ _ _ _ _ _ _ _ _ _ _ refl c.in_ok-limit.ensures.ok c.in_ok-name.ensures.ok c.in_ok-options.ensures.ok
-    c.in_ok-count.ensures.ok c.in_ok-nodes.ensures.ok c.in_ok-end.ensures.ok refl refl refl refl
+    c.in_ok-count.ensures.ok c.in_ok-nodes.ensures.ok c.in_ok-end.ensures.ok refl c.name_from.ensures refl refl
