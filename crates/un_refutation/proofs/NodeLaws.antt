@@ -5,7 +5,7 @@ use Rattle.un_report_reader.proofs.Once.{Once}
 use Rattle.un_report_reader.specs.Errors.{IsRead}
 use Rattle.un_report_reader.specs.declared.place.Place.{Place}
 use Rattle.un_symtree.proofs.SymTrees.{sym_more, sym_nodes_once, sym_node_stands}
-use Rattle.un_symtree.specs.SymTexts.{SymFits, sym_line, sym_text, BeginsWithSym, BeginsNoSymNode}
+use Rattle.un_symtree.specs.SymTexts.{SymFits, sym_text, BeginsWithSym, BeginsNoSymNode}
 use Rattle.un_symtree.specs.declared.node.SymNode.{SymNode}
 use Rattle.un_refutation.specs.FirstBad.{IsBadNode}
 use Rattle.un_refutation.specs.Refutations.{AreNodes}

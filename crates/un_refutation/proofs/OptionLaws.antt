@@ -1,5 +1,5 @@
 -- The line of the options: it is told by its text, and texts that begin with none.
-use Rattle.std.proofs.Common.{◌≡◌, ◌≢◌, ℕ, ◌≤◌, List, ◌∷◌, ◌++◌, Option, IfSome, codes, decimal, sym, ap, ◌∙◌, arith, append_assoc}
+use Rattle.std.proofs.Common.{◌≡◌, ◌≢◌, ℕ, List, ◌∷◌, ◌++◌, Option, IfSome, codes, decimal, sym, ap, ◌∙◌, arith, append_assoc}
 use Rattle.un_isa.specs.declared.reg.TheConstants.{SLOTS}
 use Rattle.un_model.specs.Options.{IsCountOfRegisters, AreOptions}
 use Rattle.un_model.specs.declared.model.Options.{Options}

@@ -1,5 +1,5 @@
 -- Refutations are told by their texts, no line of one is bad, and what is read part by part is one.
-use Rattle.std.proofs.Common.{◌≡◌, ℕ, ◌+◌, ◌-◌, ◌^◌, inl, inr, List, [], ◌++◌, All, Result, Ok, Err, IfOk, IfErr, codes, length}
+use Rattle.std.proofs.Common.{◌≡◌, ℕ, ◌-◌, ◌^◌, inl, inr, List, [], ◌++◌, All, Result, Ok, Err, IfOk, IfErr, codes, length}
 use Rattle.std.proofs.Common.{refl, sym, ap, ◌∙◌, subst, arith}
 use Rattle.un_commands.specs.Settings.{IsCountOfNodes}
 use Rattle.un_commands.specs.declared.command.TheConstants.{MOST_NODES}

@@ -10,11 +10,11 @@ use Rattle.un_report_reader.proofs.Through.{behind_line}
 use Rattle.un_report_reader.specs.FirstBad.{BeginsNone, InEnd, InNothing}
 use Rattle.un_report_reader.specs.Lines.{IsLong, IsName, function_text, IsPlain, end_text}
 use Rattle.un_symtree.proofs.SymLines.{first_letter}
-use Rattle.un_symtree.specs.SymTexts.{SymFits, sym_line, BeginsNoSymNode}
+use Rattle.un_symtree.specs.SymTexts.{SymFits, BeginsNoSymNode}
 use Rattle.un_symtree.specs.declared.node.SymNode.{SymNode}
 use Rattle.un_symtree.specs.declared.node.SymNode.TheVariants.{Branch, Closed, Mirror}
 use Rattle.un_tree.specs.declared.node.Node.TheVariants as Node
-use Rattle.un_refutation.specs.FirstBad.{IsBadNode, InNodes, InCount, InOptions, InName, IsFirstBad}
+use Rattle.un_refutation.specs.FirstBad.{InNodes, InCount, InOptions, InName, IsFirstBad}
 use Rattle.un_refutation.specs.Refutations.{limit_text, options_text, count_text, refutation_text, cut_text}
 
 abbrev all_registers : Options

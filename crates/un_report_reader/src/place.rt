@@ -15,11 +15,7 @@ pub struct Place<'a> {
 }
 
 /// The place so many lines later, where this is left.
-pub fn behind<'a>(
-    at: Place<'a>,
-    rest: &'a [u8],
-    lines: u32,
-) -> Result<Place<'a>, ReportError>
+pub fn behind<'a>(at: Place<'a>, rest: &'a [u8], lines: u32) -> Result<Place<'a>, ReportError>
     ensures rest { IfOk result (λ next. next.rest.now ≡ rest.now) }
     ensures lines { IfOk result (λ next. next.lines ≡ at.entry.lines + lines) }
     ensures err { IfErr result (λ e. e ≡ Error.NoMemory) }

@@ -1,5 +1,5 @@
 use Rattle.un_tree.proofs.Cuts.{if_none}
-use Rattle.un_refutation.proofs.OptionLaws.{no_word, no_regs_word, no_slots, options_here}
+use Rattle.un_refutation.proofs.OptionLaws.{no_word, no_regs_word, no_slots}
 use Rattle.un_refutation.proofs.options.options_in.Goals as goal
 
 pub returns-in_err-word-clause-none : goal.returns-in_err-word-clause-none
