@@ -20,7 +20,7 @@ use Rattle.un_tree.specs.declared.node.Node.{Node}
 use Rattle.un_tree.specs.declared.node.Node.TheVariants.{Open}
 use Rattle.un_model.specs.Boxes.{root_of}
 use Rattle.un_stand.specs.Rooms.{path_of}
-use Rattle.un_stand.specs.Turns.{waits, waiting_at}
+use Rattle.un_walk.specs.Turns.{waits, waiting_at}
 use Rattle.un_check.specs.Judging.{HasScratch}
 use Rattle.un_certificate.specs.Bounds.{IsLeastOpen}
 use Rattle.un_check.specs.Walks.{IsWalk}

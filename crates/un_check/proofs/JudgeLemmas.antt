@@ -65,7 +65,7 @@ least_is m (Some c) b (Least n) (Some k) h u =
 -- the box that the store has
 module _ (m : Model) (limit : Option ℕ) (r : Room) (h : IsAt m limit r) where
   pub at_cuts : (P : Sets → Type 0) → P r.stand.cuts.sets → P (reached (root_of m) (path_of r))
-  at_cuts P p = subst P h.stand.box.sets p
+  at_cuts P p = subst P h.stand.sets p
 
   pub branch_one : (place : ℕ) (v : VarId) (x : ℕ) → (Splits r.stand.cuts.sets v x → ⊥)
       → IsJudged m limit place (Branch v x) (Whole (reached (root_of m) (path_of r))) (Broken (NotStrict place))

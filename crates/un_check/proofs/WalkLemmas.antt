@@ -24,8 +24,8 @@ use Rattle.un_model.specs.Boxes.{IsBelow, root_of}
 use Rattle.un_certificate.specs.ModelLaws.{posted_keeps}
 use Rattle.un_certificate.specs.Posted.{IsPosted}
 use Rattle.un_stand.specs.Rooms.{path_of}
-use Rattle.un_stand.specs.Turns.{waits, waiting_at}
-use Rattle.un_stand.proofs.Paths.{side_box}
+use Rattle.un_walk.specs.Turns.{waits, waiting_at}
+use Rattle.un_walk.proofs.Paths.{side_box}
 use Rattle.un_check.specs.Verdicts.{Keeps, KeepsIn, BreaksIn, IsFirstBreak, IsYes, IsVerdict, OnYes}
 use Rattle.un_check.specs.Walks.{IsWalk, lowered}
 use Rattle.un_check.specs.declared.verdict.TreeVerdict.{TreeVerdict}

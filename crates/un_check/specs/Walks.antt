@@ -7,7 +7,7 @@ use Rattle.un_tree.specs.Waits.{Visit, IsWhole, IsTreeOf, visits, visits_of, ope
 use Rattle.un_tree.specs.declared.node.Node.{Node}
 use Rattle.un_model.specs.Boxes.{root_of}
 use Rattle.un_stand.specs.Rooms.{path_of}
-use Rattle.un_stand.specs.Turns.{waiting_at}
+use Rattle.un_walk.specs.Turns.{waiting_at}
 use Rattle.un_certificate.specs.Bounds.{IsLeastOpen}
 use Rattle.un_check.specs.Verdicts.{Keeps}
 use Rattle.un_check.specs.declared.walk.Walk.{Walk}

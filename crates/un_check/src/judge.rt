@@ -1,9 +1,9 @@
 //! Which point a node of a tree breaks.
 
-ghost use Rattle.std.specs.Prelude.{◌≡◌, true, false, length};
+ghost use Rattle.std.specs.Prelude.{◌≡◌, length};
 ghost use Rattle.un_domains.specs.Sets.{NoneEmpty};
 ghost use Rattle.un_bound.specs.Relaxations.{IsRelaxation};
-ghost use Rattle.un_tree.specs.Boxes.{Splits, reached};
+ghost use Rattle.un_tree.specs.Boxes.{reached};
 ghost use Rattle.un_tree.specs.Waits.{Whole};
 ghost use Rattle.un_model.specs.Boxes.{root_of};
 ghost use Rattle.un_stand.specs.Rooms.{CanCheck, IsAt, path_of};
@@ -17,6 +17,7 @@ use un_prop::propagator::Scratch;
 use un_stand::room::{Room, is_lost};
 use un_stand::rules::Rules;
 use un_tree::node::Node;
+use un_walk::branch::splits;
 
 /// What was found of a node.
 #[derive(Clone, Copy)]
@@ -27,18 +28,6 @@ pub(crate) enum Judged {
     Kept,
     /// It is an open leaf that keeps all points, with the least cost of the relaxation in its box.
     Leaf(u64),
-}
-
-/// Whether a variable has values of a box on both sides.
-fn splits(store: &Store, var: VarId, val: u32) -> bool
-    requires { NoneEmpty store.now.sets }
-    ensures both { result ≡ true → Splits store.now.sets var val }
-    ensures one { result ≡ false → Splits store.now.sets var val → ⊥ }
-{
-    if var.0 >= store.len() {
-        return false;
-    }
-    store.min(var) <= val && val < store.max(var)
 }
 
 /// The relaxation of the model in a box.

@@ -1,4 +1,1 @@
-pub mod Paths
 pub mod RoomLemmas
-pub mod RouteLemmas
-pub mod StandLemmas

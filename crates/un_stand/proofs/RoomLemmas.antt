@@ -19,7 +19,6 @@ use Rattle.un_prop.specs.Rounds.{fix_of}
 use Rattle.un_domains.specs.Sides.{side_test}
 use Rattle.un_tree.specs.Boxes.{IsBox, Splits, decided, reached}
 use Rattle.un_tree.specs.declared.node.Decision.{Decision}
-use Rattle.un_branching.proofs.BoxLemmas.{half_box}
 use Rattle.un_levels.specs.Levels.{Leveled}
 use Rattle.un_levels.proofs.LevelLemmas.{reached-append, leveled_end, leveled_push, leveled_pop, leveled_long}
 use Rattle.un_model.specs.Boxes.{root_of}
@@ -27,10 +26,10 @@ use Rattle.un_certificate.specs.ModelLaws.{posted_parts, posted_inside}
 use Rattle.un_certificate.specs.Posted.{ArePosted, IsPosted}
 use Rattle.un_stand.specs.Engines.{IsDecided, IsLeft, IsSame, IsUndone, side_end}
 use Rattle.un_stand.specs.Rooms.{AllLost, IsAt, IsEndAt, IsEndBy, IsEngineAt, path_of}
-use Rattle.un_stand.specs.Stands.{IsStandAt}
+use Rattle.un_walk.specs.Stands.{IsStandAt}
 use Rattle.un_stand.specs.declared.room.Room.{Room}
-use Rattle.un_stand.proofs.Paths.{last_once, not_nil, side_box, snoc_some}
-use Rattle.un_stand.proofs.StandLemmas.{box_here as stand_box, marks_long}
+use Rattle.un_walk.proofs.Paths.{half_box, last_once, not_nil, side_box, snoc_some}
+use Rattle.un_walk.proofs.StandLemmas.{box_here as stand_box, marks_long}
 
 -- ---- decisions on whose boxes the rounds fail
 
@@ -170,8 +169,7 @@ module _ (m : Model) (limit : Option ℕ) (post : IsPosted m limit) (r : Room) (
   pub entered_lost : fix_at m limit (reached (root_of m) (path_of r)) ≡ None → IsEndBy m limit (path_of r ++ d ∷ []) r.engine
   entered_lost none =
       let i = box_here in
-      let side = half_box (reached (root_of m) (path_of r)) (reached (root_of m) (path_of r)) d.var d.val d.side i.1
-      (Below-refl (reached (root_of m) (path_of r))) i.1 s in
+      let side = half_box (reached (root_of m) (path_of r)) d.var d.val d.side i.1 s in
       end_lost m limit (path_of r) r.engine h.rounds d
       (posted_parts m limit post.props post.are (reached (root_of m) (path_of r)) (decided d (reached (root_of m) (path_of r))) i
       (Below-trans _ _ _ side.0 i.0, side.1) side.0 none)

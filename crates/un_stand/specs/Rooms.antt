@@ -14,7 +14,7 @@ use Rattle.un_tree.specs.declared.node.Decision.{Decision}
 use Rattle.un_levels.specs.Levels.{AtPath}
 use Rattle.un_model.specs.Boxes.{root_of}
 use Rattle.un_certificate.specs.Posted.{ArePosted, IsPosted}
-use Rattle.un_stand.specs.Stands.{IsStandAt}
+use Rattle.un_walk.specs.Stands.{IsStandAt}
 use Rattle.un_stand.specs.declared.room.Room.{Room}
 use Rattle.un_stand.specs.declared.rules.Rules.{Rules}
 

@@ -1,7 +1,5 @@
-//! The staircase: where a walk over a tree stands, on its way down to sides and up again.
+//! Where a walk over a model's tree stands, with an engine at what the rounds leave of the box there.
 #![tactic(auto)]
 
-pub mod branch;
 pub mod room;
 pub mod rules;
-pub mod stand;

@@ -10,12 +10,12 @@ ghost use Rattle.un_model.specs.Boxes.{root_of};
 ghost use Rattle.un_certificate.specs.Posted.{ArePosted};
 ghost use Rattle.un_stand.specs.Engines.{IsLeft, IsDecided};
 ghost use Rattle.un_stand.specs.Rooms.{CanCheck, IsAt, IsEndBy, path_of};
-ghost use Rattle.un_stand.specs.Routes.{paths_after};
-ghost use Rattle.un_stand.specs.Turns.{paths_behind, paths_at};
+ghost use Rattle.un_walk.specs.Routes.{paths_after};
+ghost use Rattle.un_walk.specs.Turns.{paths_behind, paths_at};
 
 use crate::rules::Rules;
-use crate::stand;
-use crate::stand::Stand;
+use un_walk::stand;
+use un_walk::stand::Stand;
 use std::alloc::Global;
 use un_base::ids::VarId;
 use un_base::memory_error::NoMemory;

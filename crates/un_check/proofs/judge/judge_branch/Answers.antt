@@ -1,5 +1,5 @@
 use Rattle.un_model.specs.Boxes.{root_of}
-use Rattle.un_stand.proofs.StandLemmas.{cuts_box}
+use Rattle.un_walk.proofs.StandLemmas.{cuts_box}
 use Rattle.un_check.proofs.JudgeLemmas.{branch_one, branch_empty, branch_kept}
 use Rattle.un_check.proofs.judge.judge_branch.Goals as goal
 

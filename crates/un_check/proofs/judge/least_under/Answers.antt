@@ -1,5 +1,5 @@
 use Rattle.un_model.specs.Boxes.{root_of}
-use Rattle.un_stand.proofs.StandLemmas.{cuts_box}
+use Rattle.un_walk.proofs.StandLemmas.{cuts_box}
 use Rattle.un_check.proofs.JudgeLemmas.{at_cuts, least_is}
 use Rattle.un_check.specs.Judging.{IsLeastUnder}
 use Rattle.un_domains.specs.Sets.{Sets}

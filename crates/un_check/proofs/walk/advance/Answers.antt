@@ -3,9 +3,9 @@ use Rattle.std.specs.declared.option.Option.{Option}
 use Rattle.un_base.specs.declared.ids.VarId.{VarId}
 use Rattle.un_model.specs.Boxes.{root_of}
 use Rattle.un_stand.specs.Rooms.{path_of}
-use Rattle.un_stand.specs.Routes.{paths_after}
-use Rattle.un_stand.specs.Turns.{paths_behind}
-use Rattle.un_stand.proofs.RouteLemmas.{after_by, strict_by}
+use Rattle.un_walk.specs.Routes.{paths_after}
+use Rattle.un_walk.specs.Turns.{paths_behind}
+use Rattle.un_walk.proofs.RouteLemmas.{after_by, strict_by}
 use Rattle.un_check.proofs.walk.advance.Goals as goal
 
 pub step-requires-clause-strict : goal.step-requires-clause-strict

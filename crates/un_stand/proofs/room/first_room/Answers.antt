@@ -1,6 +1,6 @@
 use Rattle.std.proofs.Common.{subst}
 use Rattle.un_domains.specs.Sets.{NoneEmpty}
-use Rattle.un_stand.specs.Stands.{IsStandAt}
+use Rattle.un_walk.specs.Stands.{IsStandAt}
 use Rattle.un_stand.proofs.RoomLemmas.{first_at}
 use Rattle.un_stand.proofs.room.first_room.Goals as goal
 

@@ -4,8 +4,8 @@ use Rattle.un_tree.specs.Boxes.{Splits}
 use Rattle.un_tree.specs.declared.node.Decision.{Decision}
 use Rattle.un_model.specs.Boxes.{root_of}
 use Rattle.un_stand.specs.Rooms.{IsEndBy}
-use Rattle.un_stand.specs.Stands.{IsStandAt}
-use Rattle.un_stand.specs.declared.stand.Stand.{Stand}
+use Rattle.un_walk.specs.Stands.{IsStandAt}
+use Rattle.un_walk.specs.declared.stand.Stand.{Stand}
 use Rattle.un_stand.proofs.room.go_down.Goals as goal
 
 pub go_down-requires-clause-at : goal.go_down-requires-clause-at
@@ -17,7 +17,7 @@ pub go_down-requires-clause-split : goal.go_down-requires-clause-split
 go_down-requires-clause-split c =
     let d = c.args.decision in
     subst (λ (b : Sets). Splits b d.var d.val)
-    (sym (ap (λ (s : Stand). s.cuts.sets) c.in_ok-enter.ensures.stand ∙ c.requires.at.stand.box.sets)) c.requires.split
+    (sym (ap (λ (s : Stand). s.cuts.sets) c.in_ok-enter.ensures.stand ∙ c.requires.at.stand.sets)) c.requires.split
 
 pub returns-clause-at : goal.returns-clause-at
 returns-clause-at c =

@@ -2,7 +2,7 @@ use Rattle.std.proofs.Common.{List, sym, subst}
 use Rattle.un_tree.specs.declared.node.Decision.{Decision}
 use Rattle.un_model.specs.Boxes.{root_of}
 use Rattle.un_stand.specs.Rooms.{IsEndBy}
-use Rattle.un_stand.proofs.Paths.{with_none, with_option}
+use Rattle.un_walk.proofs.Paths.{with_none, with_option}
 use Rattle.un_stand.proofs.RoomLemmas.{end_up, left_marks}
 use Rattle.un_stand.proofs.room.go_up.Goals as goal
 

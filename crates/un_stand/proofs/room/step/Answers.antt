@@ -2,9 +2,9 @@ use Rattle.std.proofs.Common.{ℕ, [], ap, ◌∙◌}
 use Rattle.std.specs.declared.option.Option.{Option}
 use Rattle.un_base.specs.declared.ids.VarId.{VarId}
 use Rattle.un_stand.specs.Rooms.{path_of}
-use Rattle.un_stand.specs.Routes.{paths_after}
-use Rattle.un_stand.specs.Turns.{paths_behind}
-use Rattle.un_stand.proofs.RouteLemmas.{branch_waits}
+use Rattle.un_walk.specs.Routes.{paths_after}
+use Rattle.un_walk.specs.Turns.{paths_behind}
+use Rattle.un_walk.proofs.RouteLemmas.{branch_waits}
 use Rattle.un_stand.proofs.room.step.Goals as goal
 
 pub returns-in_ok-go_down-in-Some-clause-waits : goal.returns-in_ok-go_down-in-Some-clause-waits

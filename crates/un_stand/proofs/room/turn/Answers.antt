@@ -1,9 +1,9 @@
 use Rattle.std.proofs.Common.{[], ◌∷◌, ap, ◌∙◌, length, length-append, arith}
 use Rattle.un_model.specs.Boxes.{root_of}
 use Rattle.un_stand.specs.Rooms.{path_of}
-use Rattle.un_stand.specs.Turns.{paths_behind}
-use Rattle.un_stand.proofs.Paths.{behind_above, behind_below, with_option}
-use Rattle.un_stand.proofs.StandLemmas.{path_splits}
+use Rattle.un_walk.specs.Turns.{paths_behind}
+use Rattle.un_walk.proofs.Paths.{behind_above, behind_below, with_option}
+use Rattle.un_walk.proofs.StandLemmas.{path_splits}
 use Rattle.un_stand.proofs.room.turn.Goals as goal
 
 pub go_down-requires-clause-split : goal.go_down-requires-clause-split

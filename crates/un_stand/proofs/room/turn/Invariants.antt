@@ -1,7 +1,7 @@
 -- what waits stays
 use Rattle.std.proofs.Common.{◌≡◌, [], length}
 use Rattle.un_stand.specs.Rooms.{IsAt, path_of}
-use Rattle.un_stand.specs.Turns.{paths_behind}
+use Rattle.un_walk.specs.Turns.{paths_behind}
 use Rattle.un_stand.proofs.room.turn.Given as goal
 
 abbrev pub invariant-loop-decision : goal.invariant-loop-decision

@@ -1,9 +1,9 @@
 -- the walk is on its staircase, and what waits waits behind it
 use Rattle.std.proofs.Common.{◌≡◌, [], length}
 use Rattle.un_domains.specs.Sets.{Sets}
-use Rattle.un_stand.specs.Stands.{IsStandAt}
-use Rattle.un_stand.specs.Turns.{paths_behind}
-use Rattle.un_stand.proofs.stand.turn.Given as goal
+use Rattle.un_walk.specs.Stands.{IsStandAt}
+use Rattle.un_walk.specs.Turns.{paths_behind}
+use Rattle.un_walk.proofs.stand.turn.Given as goal
 
 abbrev pub invariant-loop-decision : goal.invariant-loop-decision
 invariant-loop-decision l = record {

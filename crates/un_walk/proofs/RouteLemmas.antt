@@ -11,10 +11,9 @@ use Rattle.un_tree.specs.Waits.{Waiting, Whole, Visit, after, visits, IsStrictIn
 use Rattle.un_tree.specs.declared.node.Decision.{Decision}
 use Rattle.un_tree.specs.declared.node.Node.{Node}
 use Rattle.un_tree.specs.declared.node.Node.TheVariants.{Branch, Closed, Open}
-use Rattle.un_branching.proofs.WalkLemmas.{reached-push}
-use Rattle.un_stand.proofs.Paths.{behind_snoc}
-use Rattle.un_stand.specs.Routes.{box_at, branch_at, paths_after, routes, visit_at}
-use Rattle.un_stand.specs.Turns.{other_path, other_side, paths_at, paths_behind, waiting_at, waits}
+use Rattle.un_walk.proofs.Paths.{behind_snoc, reached-push}
+use Rattle.un_walk.specs.Routes.{box_at, branch_at, paths_after, routes, visit_at}
+use Rattle.un_walk.specs.Turns.{other_path, other_side, paths_at, paths_behind, waiting_at, waits}
 
 -- behind a branch, the side above waits behind the side below
 pub branch_waits : (old new : List Decision) (v : VarId) (x : ℕ) → new ≡ old ++ record { var = v; val = x; side = AtMost } ∷ []

@@ -1,18 +1,22 @@
 -- Paths of decisions, what waits behind them, and the boxes at their ends.
-use Rattle.std.proofs.Common.{◌≡◌, ◌≢◌, ◌<◌, List, [], ◌∷◌, ◌++◌, length, None, Some}
-use Rattle.std.proofs.Common.{refl, sym, ap, ◌∙◌, append_assoc, arith}
-use Rattle.std.proofs.lemmas.List.{append-nil}
+use Rattle.std.proofs.Common.{ℕ, ◌≡◌, ◌≢◌, ◌<◌, Bool, List, [], ◌∷◌, ◌++◌, length, filter, None, Some}
+use Rattle.std.proofs.Common.{refl, sym, ap, subst, ◌∙◌, append_assoc, arith, inl, inr}
+use Rattle.std.proofs.lemmas.List.{append-nil, get_or-set_same, get_or-set_other, length-set}
 use Rattle.std.specs.declared.option.Option.{Option}
 use Rattle.std.specs.Option.{option_to_list}
-use Rattle.un_domains.specs.Sets.{Sets, NoneEmpty}
-use Rattle.un_domains.specs.OrderLaws.{Below-refl, Below-trans}
+use Rattle.un_base.specs.declared.ids.VarId.{VarId}
+use Rattle.un_domains.specs.Sets.{Sets, set_at, has, kept, NoneEmpty}
+use Rattle.un_domains.specs.SetLaws.{same_or_not}
+use Rattle.un_domains.specs.Order.{Below}
+use Rattle.un_domains.specs.OrderLaws.{Below-refl, Below-trans, filter_own}
+use Rattle.un_domains.specs.Sides.{side_test}
 use Rattle.un_domains.specs.declared.side.Side.{Side}
 use Rattle.un_domains.specs.declared.side.Side.TheVariants.{AtMost, Above}
 use Rattle.un_tree.specs.Boxes.{IsBox, half, Splits, decided, reached}
 use Rattle.un_tree.specs.declared.node.Decision.{Decision}
-use Rattle.un_branching.proofs.BoxLemmas.{half_box}
-use Rattle.un_stand.specs.Stands.{AllSplit}
-use Rattle.un_stand.specs.Turns.{other_path, paths_behind}
+use Rattle.un_tree.proofs.BoxLaws.{half_full}
+use Rattle.un_walk.specs.Stands.{AllSplit}
+use Rattle.un_walk.specs.Turns.{other_path, paths_behind}
 
 -- ---- lists that end with one more
 
@@ -52,6 +56,32 @@ with_none xs ys o is e = sym (e ∙ (ap (λ (k : Option Decision). ys ++ option_
 
 -- ---- boxes
 
+pub reached-push : (b : Sets) (ds : List Decision) (d : Decision) → reached b (ds ++ d ∷ []) ≡ decided d (reached b ds)
+reached-push b [] d = refl
+reached-push b (e ∷ ds) d = reached-push (decided e b) ds d
+
+-- each variable of a box is one of the boxes below it
+pub reached_long : (b : Sets) (ds : List Decision) → length (reached b ds) ≡ length b
+reached_long b [] = refl
+reached_long b (d ∷ ds) = reached_long (decided d b) ds ∙ length-set b d.var.0 _
+
+kept_below : (p : ℕ → Bool) (b : Sets) (v : ℕ) → v < length b → Below (kept p b v) b
+kept_below p b v there = record {
+  long = length-set b v _;
+  each = λ w. elim (same_or_not w v) [
+    | inl e ↦ subst (λ (u : ℕ). set_at (kept p b v) u ≡ filter (has (set_at (kept p b v) u)) (set_at b u)) (sym e)
+        (subst (λ (ys : List ℕ). ys ≡ filter (has ys) (set_at b v)) (sym (get_or-set_same b v (filter p (set_at b v)) [] there))
+        (filter_own p (set_at b v)))
+    | inr ne ↦ subst (λ (ys : List ℕ). ys ≡ filter (has ys) (set_at b w)) (sym (get_or-set_other b v w (filter p (set_at b v)) [] ne))
+        ((Below-refl b).each w)
+  ];
+}
+
+-- a side of what is split is a smaller box with no empty set
+pub half_box : (b : Sets) (v : VarId) (x : ℕ) (side : Side) → NoneEmpty b → Splits b v x
+    → Below (half b v x side) b × NoneEmpty (half b v x side)
+half_box b v x side full s = (kept_below (side_test side x) b v.0 s.0, half_full b v x side full s)
+
 pub split_snoc : (b : Sets) (ds : List Decision) (d : Decision) → AllSplit b ds → Splits (reached b ds) d.var d.val → AllSplit b (ds ++ d ∷ [])
 split_snoc b [] d all one = (one, tt)
 split_snoc b (e ∷ ds) d all one = (all.0, split_snoc (decided e b) ds d all.1 one)
@@ -62,7 +92,7 @@ split_init b (e ∷ ds) d all = let rest = split_init (decided e b) ds d all.1 i
 
 pub side_box : (root b : Sets) (d : Decision) (side : Side) → IsBox root b → Splits b d.var d.val → IsBox root (half b d.var d.val side)
 side_box root b d side i s =
-    let h = half_box b b d.var d.val side i.1 (Below-refl b) i.1 s in (Below-trans (half b d.var d.val side) b root h.0 i.0, h.1)
+    let h = half_box b d.var d.val side i.1 s in (Below-trans (half b d.var d.val side) b root h.0 i.0, h.1)
 
 box_from : (root b : Sets) (ds : List Decision) → IsBox root b → AllSplit b ds → IsBox root (reached b ds)
 box_from root b [] i all = i

@@ -1,6 +1,6 @@
-use Rattle.un_stand.proofs.Paths.{with_option}
-use Rattle.un_stand.proofs.StandLemmas.{stand_up}
-use Rattle.un_stand.proofs.stand.go_up.Goals as goal
+use Rattle.un_walk.proofs.Paths.{with_option}
+use Rattle.un_walk.proofs.StandLemmas.{stand_up}
+use Rattle.un_walk.proofs.stand.go_up.Goals as goal
 
 pub returns-in-Some-clause-at : goal.returns-in-Some-clause-at
 returns-in-Some-clause-at c root h = stand_up root c.args.stand.now h _ c.in-Some.decision

@@ -1,10 +1,10 @@
 use Rattle.std.proofs.Common.{ℕ, [], ap, ◌∙◌}
 use Rattle.std.specs.declared.option.Option.{Option}
 use Rattle.un_base.specs.declared.ids.VarId.{VarId}
-use Rattle.un_stand.specs.Routes.{paths_after}
-use Rattle.un_stand.specs.Turns.{paths_behind}
-use Rattle.un_stand.proofs.RouteLemmas.{branch_waits}
-use Rattle.un_stand.proofs.stand.step.Goals as goal
+use Rattle.un_walk.specs.Routes.{paths_after}
+use Rattle.un_walk.specs.Turns.{paths_behind}
+use Rattle.un_walk.proofs.RouteLemmas.{branch_waits}
+use Rattle.un_walk.proofs.stand.step.Goals as goal
 
 pub returns-in_ok-go_down-in-Some-clause-waits : goal.returns-in_ok-go_down-in-Some-clause-waits
 returns-in_ok-go_down-in-Some-clause-waits c =

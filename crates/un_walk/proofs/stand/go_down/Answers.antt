@@ -1,5 +1,5 @@
-use Rattle.un_stand.proofs.StandLemmas.{cuts_box, stand_down}
-use Rattle.un_stand.proofs.stand.go_down.Goals as goal
+use Rattle.un_walk.proofs.StandLemmas.{cuts_box, stand_down}
+use Rattle.un_walk.proofs.stand.go_down.Goals as goal
 
 pub mark_and_cut-requires-clause-live : goal.mark_and_cut-requires-clause-live
 mark_and_cut-requires-clause-live c = (cuts_box c.requires.at.root c.args.stand.now c.requires.at.at).1

@@ -4,15 +4,15 @@ ghost use Rattle.std.specs.Prelude.{◌≡◌, ◌<◌, ◌++◌, ◌∷◌, [],
 ghost use Rattle.std.specs.Option.{option_to_list};
 ghost use Rattle.un_domains.specs.Sets.{Sets, NoneEmpty};
 ghost use Rattle.un_tree.specs.Boxes.{Splits, decided};
-ghost use Rattle.un_stand.specs.Stands.{IsStand, IsStandAt};
-ghost use Rattle.un_stand.specs.Turns.{paths_behind, paths_at};
-ghost use Rattle.un_stand.specs.Routes.{paths_after};
+ghost use Rattle.un_walk.specs.Stands.{IsStand, IsStandAt};
+ghost use Rattle.un_walk.specs.Turns.{paths_behind, paths_at};
+ghost use Rattle.un_walk.specs.Routes.{paths_after};
 
 use std::alloc::Global;
 use un_base::ids::VarId;
 use un_base::memory_error::NoMemory;
-use un_domains::store::Store;
 use un_domains::side::Side;
+use un_domains::store::Store;
 use un_tree::node::Decision;
 
 /// Where a walk over a tree stands: it knows no model and no propagators.

@@ -1,8 +1,8 @@
 use Rattle.std.proofs.Common.{[], ap, ◌∙◌, length, ◌∷◌, length-append, arith}
-use Rattle.un_stand.specs.Turns.{paths_behind}
-use Rattle.un_stand.proofs.Paths.{behind_above, behind_below, with_option}
-use Rattle.un_stand.proofs.StandLemmas.{last_splits}
-use Rattle.un_stand.proofs.stand.turn.Goals as goal
+use Rattle.un_walk.specs.Turns.{paths_behind}
+use Rattle.un_walk.proofs.Paths.{behind_above, behind_below, with_option}
+use Rattle.un_walk.proofs.StandLemmas.{last_splits}
+use Rattle.un_walk.proofs.stand.turn.Goals as goal
 
 pub go_up-requires : goal.go_up-requires
 go_up-requires c = record { root = c.requires.root; at = c.loop-decision.invariant.at c.requires.root c.requires.at }

@@ -1,0 +1,4 @@
+pub mod FinishLemmas
+pub mod Paths
+pub mod RouteLemmas
+pub mod StandLemmas

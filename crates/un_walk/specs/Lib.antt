@@ -1,0 +1,4 @@
+pub mod Finished
+pub mod Routes
+pub mod Stands
+pub mod Turns
