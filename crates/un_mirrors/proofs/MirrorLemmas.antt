@@ -1,5 +1,5 @@
 -- What a mirror's third need comes to: the values of few variables, exchanged, pass few decisions.
-use Rattle.std.proofs.Common.{ℕ, zero, suc, ◌≡◌, true, List, [], ◌∷◌, ◌++◌, length, take, drop, Some, None, All}
+use Rattle.std.proofs.Common.{ℕ, suc, ◌≡◌, true, List, [], ◌∷◌, ◌++◌, length, take, drop, Some, None, All}
 use Rattle.std.proofs.Common.{refl, sym, ap, subst, ◌∙◌, arith}
 use Rattle.std.specs.Prelude.{slice_get}
 use Rattle.std.specs.List.{AllByRecursion}
@@ -18,6 +18,7 @@ use Rattle.un_symm.specs.Interchangeable.{AreInterchangeable}
 use Rattle.un_symm.proofs.Exchanging.{closed}
 use Rattle.un_mirrors.specs.Exchanged.{Passes, PassesExchanged, left_of}
 use Rattle.un_mirrors.specs.Mirrors.{MirrorsInto, IsMirror}
+use Rattle.un_mirrors.proofs.Nearest.{get_here, parted}
 use Rattle.un_mirrors.proofs.Kept.{PassesAt, has_there, kept_to, kept_from, reached_to, reached_from}
 
 -- ---- decisions that the values of a box pass
@@ -75,30 +76,7 @@ module _ (m : Model) (a b : ℕ) (path above : List Decision) (at : Decision) wh
       passed v x h = kept_to (side_test AtMost at.val) (reached (root_of m) above) at.var.0 v (exchanged_at m.temps a b v x)
           (within v x (has_there box v x h) h)
 
--- ---- a decision of a path, by its place
-
-get_here : (xs ys : List Decision) (d : Decision) → slice_get (xs ++ d ∷ ys) (length xs) ≡ Some d
-get_here [] ys d = refl
-get_here (x ∷ xs) ys d = get_here xs ys d
-
--- a path is what is above a decision, that decision, and what is below it
-record IsPartedAt (path : List Decision) (depth : ℕ) (at : Decision) : Type 0 where
-  pub below : List Decision
-  pub split : path ≡ take depth path ++ at ∷ below
-  pub deep : length (take depth path) ≡ depth
-
-parted : (path : List Decision) (depth : ℕ) (at : Decision) → slice_get path depth ≡ Some at → IsPartedAt path depth at
-parted [] depth at e = absurd (cc e)
-parted (d ∷ ds) zero at e = let same : d ≡ at = cc e in record {
-  below = ds;
-  split = ap (λ (x : Decision). x ∷ ds) same;
-  deep = refl;
-}
-parted (d ∷ ds) (suc k) at e = let rest = parted ds k at e in record {
-  below = rest.below;
-  split = ap (λ (xs : List Decision). d ∷ xs) rest.split;
-  deep = ap suc rest.deep;
-}
+-- ---- the three needs
 
 module _ (m : Model) (a b depth : ℕ) (path : List Decision) where
   mirror_here : (h : IsMirror m a b depth path) → slice_get path depth ≡ Some h.at
@@ -127,7 +105,7 @@ module _ (m : Model) (a b depth : ℕ) (path : List Decision) where
       alike = alike;
       above = take depth path;
       at = at;
-      below = parts.below;
+      below = drop (suc depth) path;
       split = parts.split;
       deep = parts.deep;
       right = right;

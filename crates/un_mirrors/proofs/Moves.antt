@@ -130,12 +130,12 @@ pub only_neighbour : (temps : List TempVars) (a : ℕ) (box : Sets) (at : Decisi
     → ((x : ℕ) → has (set_at box at.var.0) x ≡ true → at.val < x) → PassesExchanged temps a (a + 1) box (left_of at)
     → (a ≡ at.val) × (least (set_at box at.var.0) ≡ at.val + 1)
 only_neighbour temps a box at some above all =
-    by (moved_by a (a + 1) x at.val (above x (has_least (set_at box at.var.0) some))
-    (turned_moves temps a (a + 1) box at some above all))
+    by (least (set_at box at.var.0)) (above _ (has_least (set_at box at.var.0) some))
+    (turned_moves temps a (a + 1) box at some above all)
   where
-    abbrev x : ℕ
-    x = least (set_at box at.var.0)
-
-    by : ((x ≡ a) × (a + 1 ≤ at.val)) ⊎ ((x ≡ a + 1) × (a ≤ at.val)) → (a ≡ at.val) × (x ≡ at.val + 1)
-    by (inl (e, le)) = let lt = above x (has_least (set_at box at.var.0) some) in absurd (omega (arith, e, le, lt))
-    by (inr (e, le)) = let lt = above x (has_least (set_at box at.var.0) some) in (omega (arith, e, le, lt), omega (arith, e, le, lt))
+    by : (x : ℕ) → at.val < x → exchanged a (a + 1) x ≤ at.val → (a ≡ at.val) × (x ≡ at.val + 1)
+    by x lt le = cases (moved_by a (a + 1) x at.val lt le)
+      where
+        cases : ((x ≡ a) × (a + 1 ≤ at.val)) ⊎ ((x ≡ a + 1) × (a ≤ at.val)) → (a ≡ at.val) × (x ≡ at.val + 1)
+        cases (inl (e, low)) = absurd (omega (arith, e, low, lt))
+        cases (inr (e, low)) = (omega (arith, e, low, lt), omega (arith, e, low, lt))

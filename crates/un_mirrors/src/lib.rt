@@ -2,4 +2,7 @@
 #![tactic(auto)]
 
 pub mod mirror;
+mod nearest;
 pub mod registers;
+pub mod shorten;
+mod tree_end;
