@@ -1,6 +1,6 @@
 -- What a mirror's third need comes to: the values of few variables, exchanged, pass few decisions.
-use Rattle.std.proofs.Common.{ℕ, suc, ◌≡◌, true, List, [], ◌∷◌, ◌++◌, length, take, drop, Some, None, All}
-use Rattle.std.proofs.Common.{refl, sym, ap, subst, ◌∙◌, arith}
+use Rattle.std.proofs.Common.{ℕ, suc, ◌≡◌, true, List, [], ◌∷◌, ◌++◌, take, drop, Some, None, All}
+use Rattle.std.proofs.Common.{refl, sym, ap, subst, ◌∙◌}
 use Rattle.std.specs.Prelude.{slice_get}
 use Rattle.std.specs.List.{AllByRecursion}
 use Rattle.std.proofs.Math.Seq.{take-append_seam}
@@ -18,7 +18,7 @@ use Rattle.un_symm.specs.Interchangeable.{AreInterchangeable}
 use Rattle.un_symm.proofs.Exchanging.{closed}
 use Rattle.un_mirrors.specs.Exchanged.{Passes, PassesExchanged, left_of}
 use Rattle.un_mirrors.specs.Mirrors.{MirrorsInto, IsMirror}
-use Rattle.un_mirrors.proofs.Nearest.{get_here, parted}
+use Rattle.un_mirrors.proofs.NearestLemmas.{get_here, parted}
 use Rattle.un_mirrors.proofs.Kept.{PassesAt, has_there, kept_to, kept_from, reached_to, reached_from}
 
 -- ---- decisions that the values of a box pass

@@ -39,14 +39,7 @@ fn passes(cuts: &Store, a: Reg, b: Reg, d: Decision) -> bool
 }
 
 /// Whether the values of the box are on the sides of the first decisions, with two registers exchanged.
-fn pass_all(
-    m: &Model,
-    registers: &Registers,
-    stand: &Stand,
-    a: Reg,
-    b: Reg,
-    depth: usize,
-) -> bool
+fn pass_all(m: &Model, registers: &Registers, stand: &Stand, a: Reg, b: Reg, depth: usize) -> bool
     requires registers { AreRegisters m.now registers.now }
     requires at { IsStandAt (root_of m.now) stand.now }
     requires within { depth ≤ length stand.now.path.items }
@@ -72,14 +65,7 @@ fn moves_below(a: Reg, b: Reg, x: u32, val: u32) -> bool
 
 /// Whether the values of a decision's variable, which are on its right side, are on the left one with two registers exchanged: then
 /// the variable is a register that has one value left, since each value is one of the two and the other of them is on the left.
-fn turns_left(
-    m: &Model,
-    registers: &Registers,
-    stand: &Stand,
-    a: Reg,
-    b: Reg,
-    at: Decision,
-) -> bool
+fn turns_left(m: &Model, registers: &Registers, stand: &Stand, a: Reg, b: Reg, at: Decision) -> bool
     requires registers { AreRegisters m.now registers.now }
     requires there { at.var.0 < length stand.now.cuts.sets }
     requires same { length stand.now.cuts.sets ≡ length m.now.domains }
@@ -88,8 +74,14 @@ fn turns_left(
     ensures { IsTrue result ↔ PassesExchanged m.now.temps a.0 b.0 stand.now.cuts.sets (left_of at) }
 {
     let _ = m;
+    if !registers.has(at.var) {
+        return false;
+    }
     let x = stand.cuts.min(at.var);
-    registers.has(at.var) && x == stand.cuts.max(at.var) && moves_below(a, b, x, at.val)
+    if x < stand.cuts.max(at.var) {
+        return false;
+    }
+    moves_below(a, b, x, at.val)
 }
 
 /// Whether a leaf where a walk stands mirrors the left side of the branch with `depth` decisions above it: the two registers are
@@ -116,7 +108,11 @@ pub fn is_mirror(
     if let Side::AtMost = at.side {
         return false;
     }
-    turns_left(m, registers, stand, a, b, *at)
-        && pass_all(m, registers, stand, a, b, depth)
-        && interchangeable(m, a, b)
+    if !turns_left(m, registers, stand, a, b, *at) {
+        return false;
+    }
+    if !pass_all(m, registers, stand, a, b, depth) {
+        return false;
+    }
+    interchangeable(m, a, b)
 }

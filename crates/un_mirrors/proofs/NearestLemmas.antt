@@ -1,5 +1,5 @@
 -- The nearest decision of a path for a right side.
-use Rattle.std.proofs.Common.{ℕ, zero, suc, ◌≡◌, ◌+◌, ◌<◌, List, [], ◌∷◌, ◌++◌, length, take, drop, get_or, Some, All}
+use Rattle.std.proofs.Common.{ℕ, zero, suc, ◌≡◌, ◌<◌, List, [], ◌∷◌, ◌++◌, length, take, drop, Some, All}
 use Rattle.std.proofs.Common.{refl, sym, ap, subst, ◌∙◌, arith, inl, inr}
 use Rattle.std.specs.Prelude.{slice_get}
 use Rattle.std.specs.List.{AllByRecursion}
@@ -30,11 +30,6 @@ parted (d ∷ ds) (suc k) at e = let rest = parted ds k at e in record {
   split = ap (λ (xs : List Decision). d ∷ xs) rest.split;
   deep = ap suc rest.deep;
 }
-
-pub get_from : (path : List Decision) (k : ℕ) (d at : Decision) → k < length path → at ≡ get_or path k d → slice_get path k ≡ Some at
-get_from [] k d at lt e = absurd (omega (arith, lt))
-get_from (x ∷ xs) zero d at lt e = ap (λ (y : Decision). Some y) (sym e)
-get_from (x ∷ xs) (suc k) d at lt e = get_from xs k d at (omega (arith, lt)) e
 
 -- ---- sides
 
