@@ -1,5 +1,5 @@
 -- How far the check of a tree with mirrors has come, node after node.
-use Rattle.std.proofs.Common.{ℕ, ◌≡◌, ◌+◌, Bool, true, false, List, [], ◌∷◌, ◌++◌, None, Some, All, refl, sym, ap, subst, ◌∙◌, append_assoc}
+use Rattle.std.proofs.Common.{ℕ, ◌≡◌, ◌+◌, Bool, true, false, List, [], ◌∷◌, ◌++◌, Some, All, refl, sym, ap, subst, ◌∙◌, append_assoc}
 use Rattle.std.specs.declared.option.Option.{Option}
 use Rattle.std.proofs.lemmas.List.{append-nil}
 use Rattle.std.proofs.lemmas.List.Elements.{All-nil, All-push, All-same}
@@ -11,7 +11,7 @@ use Rattle.un_walk.specs.Routes.{IsWholeBy, Route, paths_after, routes}
 use Rattle.un_walk.specs.Turns.{paths_at, paths_behind}
 use Rattle.un_stand.specs.Rooms.{path_of}
 use Rattle.un_mirrors.specs.Mirrors.{sym_branch_at}
-use Rattle.un_refutes.specs.SymVerdicts.{Breaks, IsFirstBreak, IsVerdict, IsWholeTree, Keeps, KeepsAt, point_of, routes_of}
+use Rattle.un_refutes.specs.SymVerdicts.{Breaks, IsFirstBreak, IsVerdict, Keeps, KeepsAt, point_of, routes_of}
 use Rattle.un_refutes.specs.SymWalks.{IsJudged, IsWalk}
 use Rattle.un_refutes.specs.declared.verdict.SymVerdict.{SymVerdict}
 use Rattle.un_refutes.specs.declared.verdict.SymVerdict.TheVariants.{Yes, NotStrict, NotClosed, NotMirror, Short}
