@@ -1,1 +1,3 @@
+pub mod Exchanged
 pub mod Mirrors
+pub mod Shortened

@@ -1,2 +1,5 @@
-//! Leaves that mirror the left side of a branch above them, and trees shortened by them.
+//! Leaves that mirror the left side of a branch above them.
 #![tactic(auto)]
+
+pub mod mirror;
+pub mod registers;

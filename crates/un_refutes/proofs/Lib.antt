@@ -1,0 +1,6 @@
+pub mod JudgeLemmas
+pub mod Refutes
+pub mod TreeLemmas
+pub mod VerdictLemmas
+pub mod VerdictPins
+pub mod WalkLemmas
