@@ -1,10 +1,13 @@
 -- The nearest decision of a path for a right side.
-use Rattle.std.proofs.Common.{ℕ, zero, suc, ◌≡◌, ◌<◌, List, [], ◌∷◌, ◌++◌, length, take, drop, Some, All}
+use Rattle.std.proofs.Common.{ℕ, zero, suc, ◌≡◌, ◌-◌, ◌<◌, ◌≤◌, List, [], ◌∷◌, ◌++◌, length, take, drop, get_or, Some, All}
 use Rattle.std.proofs.Common.{refl, sym, ap, subst, ◌∙◌, arith, inl, inr}
 use Rattle.std.specs.Prelude.{slice_get}
 use Rattle.std.specs.List.{AllByRecursion}
 use Rattle.std.proofs.lemmas.Bool.{cases_lt}
-use Rattle.std.proofs.lemmas.List.Elements.{recursion_from_All}
+use Rattle.std.proofs.Math.Seq.{drop-cons}
+use Rattle.std.proofs.lemmas.List.{get_or_default}
+use Rattle.std.proofs.lemmas.List.Elements.{All-cons, All-same, recursion_from_All}
+use Rattle.std.proofs.lemmas.Option.{slice_get_read}
 use Rattle.un_domains.specs.declared.side.Side.TheVariants.{AtMost, Above}
 use Rattle.un_tree.specs.declared.node.Decision.{Decision}
 use Rattle.un_mirrors.specs.Shortened.{IsNearestRight}
@@ -91,3 +94,25 @@ module _ (path : List Decision) where
 
   pub nearest_at : (k : ℕ) (h : IsNearestRight path k) (at : Decision) → slice_get path k ≡ Some at → at ≡ h.at
   nearest_at k h at e = let here = nearest_here k h in cc (e, here)
+
+-- ---- as the code looks for it, from the end
+
+module _ (path : List Decision) (k : ℕ) (d : Decision) (some : 0 < k) (inside : k ≤ length path)
+    (left : All (λ (e : Decision). e.side ≡ AtMost) (drop k path)) where
+  abbrev here : Decision
+  here = get_or path (k - 1) d
+
+  next_is : suc (k - 1) ≡ k
+  next_is = omega (arith, some)
+
+  rest_left : All IsLeft (drop (suc (k - 1)) path)
+  rest_left = subst (λ (n : ℕ). All IsLeft (drop n path)) (sym next_is) left
+
+  pub found_nearest : here.side ≡ Above → IsNearestRight path (k - 1)
+  found_nearest right = nearest_by path (k - 1) here
+      (slice_get_read path (length path) (k - 1) here refl (omega (arith, some, inside))
+      (get_or_default path (k - 1) d here (omega (arith, some, inside)))) right rest_left
+
+  pub left_more : here.side ≡ AtMost → All (λ (e : Decision). e.side ≡ AtMost) (drop (k - 1) path)
+  left_more is = All-same IsLeft (drop (k - 1) path) (here ∷ drop (suc (k - 1)) path) (drop-cons path (k - 1) d (omega (arith, some, inside)))
+      (All-cons IsLeft here (drop (suc (k - 1)) path) is rest_left)
