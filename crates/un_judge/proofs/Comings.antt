@@ -1,5 +1,5 @@
 -- What the lines of a log come to: one verdict, and how it follows line by line.
-use Rattle.std.proofs.Common.{ℕ, ◌≡◌, ◌+◌, ◌⊎◌, inl, inr, List, [], ◌∷◌, refl, sym, ap, ◌∙◌, subst}
+use Rattle.std.proofs.Common.{ℕ, ◌≡◌, ◌+◌, inl, inr, List, [], ◌∷◌, sym, ap, ◌∙◌, subst}
 use Rattle.std.specs.Prelude.{Option}
 use Rattle.un_base.specs.Lines.{pieces_of}
 use Rattle.un_domains.specs.Sets.{Sets}

@@ -1,10 +1,9 @@
 -- Lines of step logs: each step has its own.
-use Rattle.std.proofs.Common.{◌≡◌, ◌≢◌, ℕ, ◌+◌, ◌<◌, ◌≤◌, ◌^◌, List, [], ◌∷◌, ◌++◌, All, Some, length, get_or, false, refl, sym, ap, ◌∙◌, append_assoc, decimal, arith}
-use Rattle.std.specs.Prelude.{Option, slice_get}
+use Rattle.std.proofs.Common.{◌≡◌, ◌≢◌, ℕ, ◌<◌, ◌≤◌, ◌^◌, List, [], ◌∷◌, ◌++◌, All, Some, length, get_or, false, refl, sym, ap, ◌∙◌, decimal, arith}
+use Rattle.std.specs.Prelude.{slice_get}
 use Rattle.std.specs.Bool.{◌==◌}
 use Rattle.std.specs.List.{AllByRecursion}
 use Rattle.std.proofs.lemmas.Fmt.{decimal_injective}
-use Rattle.std.proofs.lemmas.List.Elements.{recursion_from_All}
 use Rattle.un_base.specs.declared.ids.VarId.{VarId}
 use Rattle.un_base.specs.Lines.{pieces_of}
 use Rattle.un_base.proofs.LineLaws.{pieces_of-line, pieces_of-last}
@@ -16,7 +15,7 @@ use Rattle.un_steps.specs.declared.step.Rule.{Rule}
 use Rattle.un_steps.specs.declared.step.Rule.TheVariants.{TooSoon, Idle, OutsideBlock, FromIdle, TooLateFor, OutsideSpace, NoSpace, Alike}
 use Rattle.un_steps.specs.declared.step.Rule.TheVariants.{NotHome, NotCongruent, TooDear, NoFrame}
 use Rattle.un_steps.specs.declared.step.Step.{Step}
-use Rattle.un_judge.specs.Lines.{rule_number, numbered, step_text, step_line, dot_line, Fits, IsStepLine, Says, BeginsWith}
+use Rattle.un_judge.specs.Lines.{rule_number, numbered, step_text, dot_line, Fits, IsStepLine, Says, BeginsWith}
 use Rattle.un_judge.specs.declared.line.Line.{Line}
 use Rattle.un_judge.specs.declared.line.Line.TheVariants.{Other}
 

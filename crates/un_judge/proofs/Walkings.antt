@@ -9,7 +9,6 @@ use Rattle.un_base.specs.declared.ids.VarId.{VarId}
 use Rattle.un_base.specs.Lines.{is_line_feed, pieces_of}
 use Rattle.un_domains.specs.Sets.{Sets, IsIn}
 use Rattle.un_model.specs.Boxes.{IsBelow, root_of}
-use Rattle.un_model.specs.declared.model.Model.{Model}
 use Rattle.un_tree.specs.Boxes.{Splits, reached}
 use Rattle.un_tree.specs.Covered.{Stands, StandsIn}
 use Rattle.un_tree.specs.Waits.{Waiting, Whole, Visit, IsWhole, IsTreeOf, IsStrict, IsStrictIn, after, visits, visits_of}

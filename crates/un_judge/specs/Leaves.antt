@@ -1,8 +1,7 @@
 -- What the lines of one leaf come to.
-use Rattle.std.specs.Prelude.{ℕ, ◌≡◌, ◌+◌, ⊤, List, ◌∷◌, Option}
+use Rattle.std.specs.Prelude.{ℕ, ◌≡◌, ◌+◌, ⊤, List}
 use Rattle.un_base.specs.Lines.{pieces_of}
 use Rattle.un_domains.specs.Sets.{Sets}
-use Rattle.un_model.specs.declared.model.Model.{Model}
 use Rattle.un_steps.specs.Allowed.{after}
 use Rattle.un_steps.specs.declared.step.Step.{Step}
 use Rattle.un_judge.specs.Judged.{Ends, Goes, IsBad, Comes}

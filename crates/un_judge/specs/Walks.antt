@@ -1,7 +1,6 @@
 -- How far the judging of a log has come, node after node.
-use Rattle.std.specs.Prelude.{ℕ, ◌≡◌, ◌+◌, ⊤, List, [], ◌∷◌, ◌++◌, Option, MatchOption}
+use Rattle.std.specs.Prelude.{ℕ, ◌≡◌, ⊤, List, [], ◌∷◌, ◌++◌, Option, MatchOption}
 use Rattle.std.specs.List.{AllByRecursion, flat_map}
-use Rattle.un_base.specs.Lines.{pieces_of}
 use Rattle.un_domains.specs.Sets.{Sets}
 use Rattle.un_model.specs.Boxes.{IsBelow, root_of}
 use Rattle.un_tree.specs.Covered.{Stands, StandsIn}
@@ -9,7 +8,7 @@ use Rattle.un_tree.specs.Waits.{Waiting, Whole, IsWhole, IsStrict, visits, visit
 use Rattle.un_tree.specs.declared.node.Node.{Node}
 use Rattle.un_walk.specs.Stands.{IsStandAt}
 use Rattle.un_walk.specs.Turns.{waiting_at}
-use Rattle.un_judge.specs.Judged.{Comes, IsJudged, closed_by, closed_box}
+use Rattle.un_judge.specs.Judged.{IsJudged, closed_by, closed_box}
 use Rattle.un_judge.specs.Leaves.{LeftComes}
 use Rattle.un_judge.specs.declared.judge.Walk.{Walk}
 use Rattle.un_judge.specs.declared.leaf.Rules.{Rules}

@@ -1,4 +1,4 @@
-use Rattle.std.proofs.Common.{[], refl, sym, subst}
+use Rattle.std.proofs.Common.{refl, subst}
 use Rattle.un_domains.specs.Sets.{Sets}
 use Rattle.un_walk.specs.Stands.{IsStandAt}
 use Rattle.un_judge.proofs.Walkings.{walk_first}

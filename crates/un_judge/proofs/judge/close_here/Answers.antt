@@ -1,7 +1,6 @@
-use Rattle.std.proofs.Common.{List, refl, sym, ◌∙◌}
+use Rattle.std.proofs.Common.{refl, sym, ◌∙◌}
 use Rattle.un_model.specs.Boxes.{IsBelow, root_of}
 use Rattle.un_walk.proofs.StandLemmas.{cuts_box}
-use Rattle.un_walk.specs.Stands.{IsStandAt}
 use Rattle.un_judge.proofs.Walkings.{stand_back, some_marked, end_comes, end_refuted}
 use Rattle.un_judge.proofs.judge.close_here.Goals as goal
 

@@ -1,4 +1,4 @@
-use Rattle.std.proofs.Common.{ℕ, ◌≡◌, ◌+◌, ◌≤◌, ◌<◌, All, List, [], ◌∷◌, drop, length, get_or, subst}
+use Rattle.std.proofs.Common.{ℕ, ◌≡◌, ◌+◌, ◌≤◌, All, List, [], drop, length, get_or, subst}
 use Rattle.un_model.specs.Boxes.{IsBelow, root_of}
 use Rattle.un_tree.specs.Covered.{Stands}
 use Rattle.un_tree.specs.Waits.{visits_of}

@@ -1,4 +1,4 @@
-use Rattle.std.proofs.Common.{◌∷◌, sym, refl, subst}
+use Rattle.std.proofs.Common.{sym, refl, subst}
 use Rattle.std.specs.Prelude.{Option}
 use Rattle.un_domains.specs.Sets.{Sets}
 use Rattle.un_model.specs.Boxes.{root_of}

@@ -1,5 +1,5 @@
-use Rattle.std.proofs.Common.{ℕ, ◌≡◌, ◌+◌, List, ◌∷◌, ◌∙◌, sym, subst}
-use Rattle.un_domains.specs.Sets.{Sets, IsIn}
+use Rattle.std.proofs.Common.{◌∙◌, sym, subst}
+use Rattle.un_domains.specs.Sets.{IsIn}
 use Rattle.un_judge.proofs.Comings.{line_ends, line_goes, line_none}
 use Rattle.un_judge.proofs.Takings.{empty_in}
 use Rattle.un_judge.proofs.leaf.close.Goals as goal

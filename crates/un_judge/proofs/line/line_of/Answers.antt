@@ -1,4 +1,3 @@
-use Rattle.std.proofs.Common.{sym}
 use Rattle.un_judge.proofs.Spellings.{neither}
 use Rattle.un_judge.proofs.line.line_of.Goals as goal
 
