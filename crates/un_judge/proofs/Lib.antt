@@ -1,0 +1,4 @@
+pub mod Comings
+pub mod Spellings
+pub mod Takings
+pub mod Walkings

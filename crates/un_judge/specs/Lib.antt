@@ -1,0 +1,4 @@
+pub mod Judged
+pub mod Leaves
+pub mod Lines
+pub mod Walks

@@ -1,0 +1,3 @@
+pub mod Eaches
+pub mod ModelDomains
+pub mod RegisterBounds
