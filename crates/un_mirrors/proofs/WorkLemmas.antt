@@ -5,7 +5,7 @@ use Rattle.std.specs.List.{AllByRecursion}
 use Rattle.std.proofs.Math.Seq.{drop-cons}
 use Rattle.std.proofs.Math.Numerals.{add-one}
 use Rattle.std.proofs.lemmas.List.{append-nil, length-drop}
-use Rattle.std.proofs.lemmas.List.Elements.{All-contains, All-from_recursion}
+use Rattle.std.proofs.lemmas.List.Elements.{All-contains, All-from_recursion, All-push, All-nil}
 use Rattle.un_base.specs.declared.ids.VarId.{VarId}
 use Rattle.un_domains.specs.Sets.{Sets}
 use Rattle.un_model.specs.Boxes.{root_of}
@@ -19,6 +19,7 @@ use Rattle.un_walk.specs.Routes.{IsWholeBy, Route, branch_at, paths_after, route
 use Rattle.un_walk.specs.Stands.{IsStandAt}
 use Rattle.un_walk.specs.Turns.{paths_at, paths_behind}
 use Rattle.un_walk.proofs.RouteLemmas.{strict_by, visits_are}
+use Rattle.un_symtree.specs.SymTexts.{SymFits}
 use Rattle.un_symtree.specs.declared.node.SymNode.{SymNode}
 use Rattle.un_symtree.specs.declared.node.SymNode.TheVariants.{Branch as SymBranch, Closed as SymClosed, Mirror}
 use Rattle.un_mirrors.specs.Mirrors.{sym_branch_at}
@@ -141,8 +142,8 @@ module _ (m : Model) (nodes : List Node) (w q : Work) (h : IsWork m nodes w) (mo
       → Leads branch_at tree (path ∷ behind) (paths_at q.stand.path.items q.more)
       → paths_after (sym_branch_at s) path behind ≡ paths_at q.stand.path.items q.more → IsShortOf tree (s ∷ [])
       → IsMade m nodes s path → q.nodes.items ≡ w.nodes.items ++ s ∷ [] → IsStandAt (root_of m) q.stand → q.place ≤ length nodes
-      → IsWork m nodes q
-  work_more s tree split leads after short made pushed at within = record {
+      → SymFits s → IsWork m nodes q
+  work_more s tree split leads after short made pushed at within fits = record {
     at = at;
     within = within;
     waits = whole_behind branch_at tree (drop q.place nodes) (path ∷ behind) (paths_at q.stand.path.items q.more) leads
@@ -159,6 +160,7 @@ module _ (m : Model) (nodes : List Node) (w q : Work) (h : IsWork m nodes w) (mo
         (leads_more sym_branch_at w.nodes.items s ([] ∷ []) behind path leads_here));
     made = subst (λ (ns : List SymNode). AllByRecursion (λ (r : Route SymNode). IsMade m nodes r.node r.path) (sym_routes ns)) (sym pushed)
         (all_more sym_branch_at (IsMade m nodes) 0 w.nodes.items s ([] ∷ []) behind path leads_here h.made made);
+    fit = subst (All SymFits) (sym pushed) (All-push SymFits w.nodes.items s h.fit fits);
   }
 
   -- there is one
@@ -192,21 +194,23 @@ module _ (m : Model) (nodes : List Node) (w q : Work) (h : IsWork m nodes w) (mo
     -- kept
     pub work_kept : (s : SymNode) (b : Option (VarId × ℕ)) → IsShortenable m nodes → ((a : ℕ) → IsMirrorOnNearest m a path → ⊥)
         → IsSameNode next s → b ≡ branch_at next → paths_after b path behind ≡ paths_at q.stand.path.items q.more
-        → q.nodes.items ≡ w.nodes.items ++ s ∷ [] → IsStandAt (root_of m) q.stand → q.place ≡ w.place + 1 → IsWork m nodes q
-    work_kept s b tree none same is after pushed at place =
+        → q.nodes.items ≡ w.nodes.items ++ s ∷ [] → IsStandAt (root_of m) q.stand → q.place ≡ w.place + 1 → SymFits s
+        → IsWork m nodes q
+    work_kept s b tree none same is after pushed at place fits =
         let leads : paths_after (branch_at next) path behind ≡ paths_at q.stand.path.items q.more =
         ap (λ (o : Option (VarId × ℕ)). paths_after o path behind) (sym is) ∙ after in
         work_more s (next ∷ []) (next_is ∙ ap (λ (k : ℕ). next ∷ drop k nodes) (sym place)) leads
         (ap (λ (o : Option (VarId × ℕ)). paths_after o path behind) (same_branch next s same) ∙ leads) (short_same next s same)
-        (made_same m nodes path next s same next_stands (next_strict tree) none) pushed at (let lt = next_inside in omega (arith, lt, place))
+        (made_same m nodes path next s same next_stands (next_strict tree) none) pushed at (let lt = next_inside in omega (arith, lt, place)) fits
 
   -- put as a mirror
   pub work_put : (s : SymNode) → IsMirrorHere m path s → IsTreeTo nodes w.place q.place → behind ≡ paths_at q.stand.path.items q.more
-      → q.nodes.items ≡ w.nodes.items ++ s ∷ [] → IsStandAt (root_of m) q.stand → q.place ≤ length nodes → IsWork m nodes q
-  work_put s here to after pushed at within = work_more s to.tree to.split
+      → q.nodes.items ≡ w.nodes.items ++ s ∷ [] → IsStandAt (root_of m) q.stand → q.place ≤ length nodes → SymFits s
+      → IsWork m nodes q
+  work_put s here to after pushed at within fits = work_more s to.tree to.split
       (subst (Leads branch_at to.tree (path ∷ behind)) after (whole_leads branch_at to.tree ([] ∷ []) (path ∷ []) behind to.one refl))
       (ap (λ (o : Option (VarId × ℕ)). paths_after o path behind) (mirror_branch m path s here) ∙ after)
-      (short_mirror m path to.tree s here to.one) (made_mirror m nodes path s here) pushed at within
+      (short_mirror m path to.tree s here to.one) (made_mirror m nodes path s here) pushed at within fits
 
 -- ---- the first and the last
 
@@ -224,6 +228,7 @@ first_is m nodes w tree at path more place none = record {
   short = subst (IsShortOf []) (sym none) refl;
   leads = subst (λ (ns : List SymNode). Leads sym_branch_at ns ([] ∷ []) (paths_at w.stand.path.items w.more)) (sym none) paths;
   made = subst (λ (ns : List SymNode). AllByRecursion (λ (r : Route SymNode). IsMade m nodes r.node r.path) (sym_routes ns)) (sym none) tt;
+  fit = subst (All SymFits) (sym none) (All-nil SymFits);
 }
   where
     whole : IsWholeBy branch_at nodes ([] ∷ [])

@@ -11,6 +11,7 @@ use Rattle.un_tree.specs.declared.node.Node.TheVariants.{Branch, Closed, Open}
 use Rattle.un_walk.specs.Routes.{IsWholeBy, Route, branch_at, paths_after, routes}
 use Rattle.un_walk.specs.Stands.{IsStandAt}
 use Rattle.un_walk.specs.Turns.{paths_at}
+use Rattle.un_symtree.specs.SymTexts.{SymFits}
 use Rattle.un_symtree.specs.declared.node.SymNode.{SymNode}
 use Rattle.un_symtree.specs.declared.node.SymNode.TheVariants.{Branch as SymBranch, Closed as SymClosed, Mirror}
 use Rattle.un_mirrors.specs.Mirrors.{IsMirror, sym_branch_at}
@@ -73,3 +74,4 @@ pub record IsWork (m : Model) (nodes : List Node) (w : Work) : Type 0 where
   pub short : IsShortOf done w.nodes.items
   pub leads : Leads sym_branch_at w.nodes.items ([] ∷ []) (paths_at w.stand.path.items w.more)
   pub made : AllByRecursion (λ (r : Route SymNode). IsMade m nodes r.node r.path) (sym_routes w.nodes.items)
+  pub fit : All SymFits w.nodes.items

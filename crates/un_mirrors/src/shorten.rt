@@ -6,6 +6,7 @@ ghost use Rattle.un_model.specs.Boxes.{root_of};
 ghost use Rattle.un_model.specs.Variables.{IsModel};
 ghost use Rattle.un_tree.specs.Waits.{IsStrict, IsTreeOf, visits_of};
 ghost use Rattle.un_tree.specs.declared.node.Node.TheVariants.{Open};
+ghost use Rattle.un_symtree.specs.SymTexts.{SymFits};
 ghost use Rattle.un_walk.specs.Routes.{IsWholeBy};
 ghost use Rattle.un_walk.specs.Stands.{IsStandAt};
 ghost use Rattle.un_mirrors.specs.Exchanged.{AreRegisters};
@@ -89,6 +90,7 @@ fn mirror_at(m: &Model, registers: &Registers, stand: &Stand) -> Option<SymNode>
     requires at { IsStandAt (root_of m.now) stand.now }
     ensures some { IfSome result (IsMirrorHere m.now stand.now.path.items) }
     ensures none { IfNone result ((a : ℕ) → IsMirrorOnNearest m.now a stand.now.path.items → ⊥) }
+    ensures fits { IfSome result SymFits }
 {
     stand.cuts.facts();
     let depth = nearest_right(stand.path.as_slice())?;
@@ -116,7 +118,8 @@ fn push(nodes: &mut Vec<SymNode>, node: SymNode) -> Result<(), NoMemory>
 /// A node that is kept.
 fn same_node(node: Node) -> SymNode
     requires { node ≢ Open }
-    ensures { IsSameNode node result }
+    ensures same { IsSameNode node result }
+    ensures fits { SymFits result }
 {
     match node {
         Node::Branch { var, val } => SymNode::Branch { var, val },
@@ -148,6 +151,7 @@ fn put(m: &Model, nodes: &[Node], work: &mut Work, mirror: SymNode) -> Result<()
     requires work { IsWork m.now nodes.now work.old }
     requires more { work.old.more ≡ true }
     requires mirror { IsMirrorHere m.now work.old.stand.path.items mirror }
+    requires fits { SymFits mirror }
     ensures work { OnOk result (IsWork m.now nodes.now work.new) }
     ensures later { OnOk result (work.old.place < work.new.place) }
 {
@@ -175,6 +179,7 @@ pub fn shorten(alloc: Global, m: &Model, t: &Tree) -> Result<SymTree, NoMemory>
     ensures strict { IfOk result (λ u. All (λ r. SplitsAt (root_of m.now) r.node r.path) (sym_routes u.nodes.items)) }
     ensures mirrors { IfOk result (λ u. All (λ r. MirrorsAt m.now r.node r.path) (sym_routes u.nodes.items)) }
     ensures no_more { IfOk result (λ u. All (λ r. IsNoMore m.now r.node r.path) (sym_routes u.nodes.items)) }
+    ensures fits { IfOk result (λ u. All SymFits u.nodes.items) }
 {
     let registers = registers_of(alloc, m)?;
     let nodes = t.nodes.as_slice();

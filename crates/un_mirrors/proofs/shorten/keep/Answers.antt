@@ -18,5 +18,6 @@ pub returns-clause-work : goal.returns-clause-work
 returns-clause-work c =
     work_kept c.args.m.now c.args.nodes.now c.args.work.now
     (record { stand = c.step.new.stand; more = c.in_ok-work.field-0; place = c.args.work.now.place + 1; nodes = c.push.new.nodes })
-    c.requires.work c.requires.more _ c.same_node.result c.branch_of.result c.requires.tree c.requires.none c.same_node.ensures
+    c.requires.work c.requires.more _ c.same_node.result c.branch_of.result c.requires.tree c.requires.none c.same_node.ensures.same
     c.branch_of.ensures c.in_ok-work.ensures.waits c.in_ok-push.ensures (c.in_ok-work.ensures.at (root_of c.args.m.now) c.requires.work.at) refl
+    c.same_node.ensures.fits

@@ -34,7 +34,18 @@ overflow_cast-depth c =
     omega (arith, inside, marks_long (root_of c.args.m.now) c.args.stand.now c.requires.at, c.facts.ensures.marks)
 
 pub returns-then-is_mirror : goal.returns-then-is_mirror
-returns-then-is_mirror c = record { some = c.is_mirror.ensures.0 c.if-is_mirror.true; none = tt }
+returns-then-is_mirror c =
+    let inside = nearest_inside c.args.stand.now.path.items c.in_ok-depth.depth
+    (subst (λ ds. IsNearestRight ds c.in_ok-depth.depth) c.as_slice.ensures.value c.in_ok-depth.ensures.some) in
+    record {
+      some = c.is_mirror.ensures.0 c.if-is_mirror.true;
+      none = tt;
+      fits = (
+        omega arith,
+        omega arith,
+        omega (arith, inside, marks_long (root_of c.args.m.now) c.args.stand.now c.requires.at, c.facts.ensures.marks),
+      );
+    }
 
 pub returns-else-is_mirror : goal.returns-else-is_mirror
 returns-else-is_mirror c = record {
@@ -42,4 +53,5 @@ returns-else-is_mirror c = record {
   none = no_neighbours c.args.m.now c.args.stand.now c.requires.at c.in_ok-depth.depth c.index.result.now
       (subst (λ ds. IsNearestRight ds c.in_ok-depth.depth) c.as_slice.ensures.value c.in_ok-depth.ensures.some) c.index.ensures
       c.min-value.result c.min-value.ensures (λ is. let yes = c.is_mirror.ensures.1 is in let no = c.if-is_mirror.false in cc (yes, no));
+  fits = tt;
 }

@@ -19,4 +19,4 @@ returns-clause-work c =
     work_put c.args.m.now c.args.nodes.now c.args.work.now
     (record { stand = c.step.new.stand; more = c.in_ok-work.field-0; place = c.tree_end-work.result; nodes = c.push.new.nodes })
     c.requires.work c.requires.more c.args.mirror c.requires.mirror c.tree_end-work.ensures.tree c.in_ok-work.ensures.waits
-    c.in_ok-push.ensures (c.in_ok-work.ensures.at (root_of c.args.m.now) c.requires.work.at) c.tree_end-work.ensures.within
+    c.in_ok-push.ensures (c.in_ok-work.ensures.at (root_of c.args.m.now) c.requires.work.at) c.tree_end-work.ensures.within c.requires.fits

@@ -39,3 +39,6 @@ returns-clause-no_more c =
     All-weaker (λ r. IsMade c.args.m.now c.as_slice-nodes.result.now r.node r.path) (λ r. IsNoMore c.args.m.now r.node r.path)
     (λ r made. made.no_more) (sym_routes c.loop-work.work.nodes.items)
     (all_made c.args.m.now c.as_slice-nodes.result.now c.loop-work.work c.loop-work.invariant c.loop-work-test.false)
+
+pub returns-clause-fits : goal.returns-clause-fits
+returns-clause-fits c = c.loop-work.invariant.fit
