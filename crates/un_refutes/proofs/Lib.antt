@@ -1,5 +1,6 @@
 pub mod JudgeLemmas
 pub mod Refutes
+pub mod ShortLaws
 pub mod TreeLemmas
 pub mod VerdictLemmas
 pub mod VerdictPins

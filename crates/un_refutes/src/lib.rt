@@ -4,5 +4,6 @@
 pub mod check;
 mod judge;
 pub mod laws;
+pub mod shorten;
 pub mod verdict;
 mod walk;
