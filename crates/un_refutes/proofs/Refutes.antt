@@ -63,13 +63,15 @@ module _ (m : Model) (limit : Option ℕ) (own : IsModel m) (full : NoneEmpty (r
   mirror_none a b depth path h done x is below =
       let left = half (reached (root_of m) h.above) h.at.var h.at.val AtMost in
       let long : length left ≡ length (reached (root_of m) path) =
-      length-set (reached (root_of m) h.above) h.at.var.0 _ ∙ (reached_long (root_of m) h.above ∙ sym (reached_long (root_of m) path)) in
-      finished_at (IsBelow m limit) (root_of m) h.above h.at h.below (subst (AreFinished (IsBelow m limit) (root_of m)) h.split done) h.right
+      length-set (reached (root_of m) h.above) h.at.var.0 _
+      ∙ (reached_long (root_of m) h.above ∙ sym (reached_long (root_of m) path)) in
+      finished_at (IsBelow m limit) (root_of m) h.above h.at h.below (subst (AreFinished (IsBelow m limit) (root_of m)) h.split done)
+      h.right
       (exchange_of m a b (record { values = x })).values
       (exchanged_in m a b h.alike.nonzero.0 h.alike.nonzero.1 (reached (root_of m) path) left x h.within long is)
       (exchanged_below m limit a b depth path x own h below)
 
-  -- nor in that of a leaf
+  -- nor in that of any leaf that keeps its point
   leaf_none : (n : SymNode) (path : List Decision) → KeepsAt m limit n path → sym_branch_at n ≡ None → AllSplit (root_of m) path
       → AreFinished (IsBelow m limit) (root_of m) path → NoneIn (IsBelow m limit) (reached (root_of m) path)
   leaf_none (Branch v x) path keeps is split done = absurd (cc is)
@@ -84,6 +86,7 @@ module _ (m : Model) (limit : Option ℕ) (own : IsModel m) (full : NoneEmpty (r
   branch_strict Closed path b keeps is = absurd (cc is)
   branch_strict (Mirror c d depth) path b keeps is = absurd (cc is)
 
+  -- so none is in the first box
   yes_refutes : (nodes : List SymNode) → IsYes m limit nodes → NoneIn (IsBelow m limit) (root_of m)
   yes_refutes nodes y = refuted (IsBelow m limit) sym_branch_at (root_of m) (Keeps m limit)
       (λ r b keeps is. branch_strict r.node r.path b keeps is) (λ r keeps is split done. leaf_none r.node r.path keeps is split done)

@@ -67,8 +67,10 @@ pub(crate) fn visit(
     requires registers { AreRegisters rules.now.m.now registers.now }
     requires at { IsAt rules.now.m.now rules.now.limit walk.old.room }
     ensures at { OnOk result (IsAt rules.now.m.now rules.now.limit walk.new.room) }
-    ensures visited { IfOk result (λ verdict. (nodes rest : List SymNode) → IsWalk rules.now.m.now rules.now.limit nodes (node ∷ rest) walk.old
-        → MatchOption verdict (IsWalk rules.now.m.now rules.now.limit nodes rest walk.new) (IsVerdict rules.now.m.now rules.now.limit nodes)) }
+    ensures visited { IfOk result (λ verdict. (nodes rest : List SymNode)
+        → IsWalk rules.now.m.now rules.now.limit nodes (node ∷ rest) walk.old
+        → MatchOption verdict (IsWalk rules.now.m.now rules.now.limit nodes rest walk.new)
+        (IsVerdict rules.now.m.now rules.now.limit nodes)) }
 {
     if !walk.more {
         return Ok(Some(SymVerdict::Short));

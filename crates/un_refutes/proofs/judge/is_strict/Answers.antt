@@ -8,4 +8,5 @@ splits-requires c = let g = c.args.rules.now in (cuts_box (root_of g.m.now) c.ar
 
 pub returns : goal.returns
 returns c = let g = c.args.rules.now in
-    strict_tells g.m.now g.limit c.args.room.now c.requires.at c.args.var c.args.val c.splits.result c.splits.ensures.both c.splits.ensures.one
+    strict_tells g.m.now g.limit c.args.room.now c.requires.at c.args.var c.args.val c.splits.result c.splits.ensures.both
+    c.splits.ensures.one
