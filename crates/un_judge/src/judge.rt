@@ -147,7 +147,8 @@ fn judge_by(alloc: Global, r: &Rules<'_>, t: &Tree, log: &[u8]) -> Result<StepVe
     requires whole { IsTreeOf (root_of r.now.m.now) t.now.nodes.items }
     requires strict { All IsStrict (visits_of (root_of r.now.m.now) t.now.nodes.items) }
     ensures verdict { IfOk result (IsJudged r.now.rules r.now.m.now r.now.limit t.now.nodes.items log.now) }
-    ensures stands { IfOk result (OnYes (All (Stands (IsBelow r.now.m.now r.now.limit)) (visits_of (root_of r.now.m.now) t.now.nodes.items))) }
+    ensures stands { IfOk result (OnYes (All (Stands (IsBelow r.now.m.now r.now.limit))
+        (visits_of (root_of r.now.m.now) t.now.nodes.items))) }
 {
     let mut walk = begin(alloc, r, log)?;
     for node in &t.nodes {
