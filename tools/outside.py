@@ -360,8 +360,6 @@ def main():
     if not files:
         folders = ["bench/imported/*.c"] if with_c else ["examples/*.uni", "kernels/*.uni"]
         files = [path for folder in folders for path in sorted(glob.glob(f"{TOP}/{folder}"))]
-        # (two of the examples have a fault)
-        files = [path for path in files if os.path.basename(path) not in ("loop.uni", "wide.uni")]
     count, compiled = Count(), Count()
     with tempfile.TemporaryDirectory() as folder:
         outside = Outside(folder, with_c)

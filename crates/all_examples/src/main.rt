@@ -1,4 +1,4 @@
-//! Runs the program on each example beside it, and compares the first lines that it writes, up to the cost, with the file of what is
+//! Runs the program on each example, and compares the first lines that it writes, up to the cost, with the file of what is
 //! expected, and what the function and its code do from some starts with what a twin in C does; and draws and explains some reports,
 //! whose texts it compares with files too.
 #![tactic(auto)]
@@ -17,33 +17,31 @@ use un_outside::memory::{MemSink, MemSource};
 use un_outside::words::Word;
 use un_top::run::run;
 
-/// The names of the examples: `NAME.uni` has the function, `NAME.out` the first lines of its report, with the cost that a second program
-/// found, or the line of its fault.
-static EXAMPLES: [&str; 14] = [
+/// The names of the examples: `functions/NAME.uni` has the function, `expected/NAME.out` the first lines of its report, with the cost that a
+/// second program found.
+static EXAMPLES: [&str; 12] = [
     "absolute",
     "checksum",
     "copy",
     "dot",
     "gcd",
     "grade",
-    "loop",
     "maximum",
     "pass",
     "population",
     "search",
     "sum",
     "total",
-    "wide",
 ];
 
-/// The names of reports that are drawn and explained: `NAME.report` has a function, a line `---` and a report on it, and `NAME.drawn` what
-/// is expected.
+/// The names of reports that are drawn and explained: `expected/NAME.report` has a function, a line `---` and a report on it, and
+/// `expected/NAME.drawn` what is expected.
 static DRAWN: [&str; 5] = ["ack", "call", "gcd", "keep", "total"];
 
 /// How many bytes are written at most.
 const ROOM: usize = 65536;
 
-/// Whether a run over an outside writes a report that begins as expected, or the line that is expected on `err` and no report.
+/// Whether a run over an outside writes a report that begins as expected.
 fn writes(
     alloc: Global,
     words: &[Word],
@@ -53,11 +51,7 @@ fn writes(
     want: &[u8],
 ) -> bool {
     let _ = run(alloc, words, src, out, err);
-    let report = out.bytes();
-    if report.is_empty() {
-        return err.bytes() == want;
-    }
-    !want.is_empty() && report.starts_with(want)
+    !want.is_empty() && out.bytes().starts_with(want)
 }
 
 /// The same with sinks for it.
@@ -96,34 +90,35 @@ fn tell(rt: &(impl Print + AllocGlobal), name: &str, text: &[u8], want: &[u8]) -
     println!(rt; "{name}: {said}, {wrong} of {all} runs otherwise")
 }
 
-/// The text of a file of an example.
-fn file(rt: &(impl Files + AllocGlobal), name: &str, ending: &str) -> io::Result<String> {
-    let path = format!(in rt.alloc(); "{name}.{ending}")?;
+/// The text of a file with what is expected of an example.
+fn expected(rt: &(impl Files + AllocGlobal), name: &str, ending: &str) -> io::Result<String> {
+    let path = format!(in rt.alloc(); "expected/{name}.{ending}")?;
     fs::read_to_string(rt, path.as_str())
 }
 
 /// Says the same of an example with this text.
 fn tell_of(rt: &(impl Files + Print + AllocGlobal), name: &str, text: &[u8]) -> io::Result<()> {
-    let want = file(rt, name, "out")?;
+    let want = expected(rt, name, "out")?;
     tell(rt, name, text, want.as_bytes())
 }
 
 /// Says the same of the example of this name.
 fn tell_named(rt: &(impl Files + Print + AllocGlobal), name: &str) -> io::Result<()> {
-    let text = file(rt, name, "uni")?;
+    let path = format!(in rt.alloc(); "functions/{name}.uni")?;
+    let text = fs::read_to_string(rt, path.as_str())?;
     tell_of(rt, name, text.as_bytes())
 }
 
 /// Says of a report whether it is drawn and explained as expected.
 fn tell_drawn(rt: &(impl Files + Print + AllocGlobal), name: &str, input: &[u8]) -> io::Result<()> {
-    let want = file(rt, name, "drawn")?;
+    let want = expected(rt, name, "drawn")?;
     let said = verdict(Ok(is_drawn_as(rt.alloc(), input, want.as_bytes())));
     println!(rt; "{name}, drawn and explained: {said}")
 }
 
 /// Says the same of the report of this name.
 fn tell_drawing(rt: &(impl Files + Print + AllocGlobal), name: &str) -> io::Result<()> {
-    let input = file(rt, name, "report")?;
+    let input = expected(rt, name, "report")?;
     tell_drawn(rt, name, input.as_bytes())
 }
 

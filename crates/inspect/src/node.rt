@@ -7,8 +7,8 @@ use std::alloc::Global;
 use un_base::decimal::read_decimal;
 use un_base::ids::VarId;
 use un_base::lines::lines;
-use un_outside::status::Status;
 use un_domains::side::Side;
+use un_outside::status::Status;
 use un_shown::input::{small_number, words};
 
 /// A decision on a variable.

@@ -16,12 +16,12 @@ use std::alloc::{AllocError, Global};
 use un_base::ids::VarId;
 use un_base::memory_error::NoMemory;
 use un_domains::cut::Cut;
+use un_domains::side::Side;
 use un_domains::store::Store;
 use un_engine::engine::Engine;
 use un_ir::text::put_text;
 use un_model::model::Model;
 use un_post::post::{Posted, post};
-use un_domains::side::Side;
 use un_shown::domains::put_values;
 use un_shown::text::put_between;
 

@@ -9,10 +9,10 @@ use std::alloc::Global;
 use std::time::CpuClock;
 use un_base::ids::VarId;
 use un_base::memory_error::NoMemory;
+use un_domains::side::Side;
 use un_domains::store::Store;
 use un_engine::engine::Engine;
 use un_prop::propagator::Propagator;
-use un_domains::side::Side;
 
 /// The middle of the values that a variable has.
 fn middle(store: &Store, v: VarId) -> u32

@@ -23,6 +23,8 @@ mod outside_runs;
 #[cfg(test)]
 mod processor;
 #[cfg(test)]
+mod refutation_texts;
+#[cfg(test)]
 mod report_texts;
 #[cfg(test)]
 mod rows;

@@ -9,6 +9,7 @@ use crate::faults::put_of_text;
 use crate::generated::put_of_seed;
 use crate::known::put_of_function;
 use crate::listings::put_of_listing;
+use crate::refutation_texts::put_of_refutation;
 use crate::report_texts::put_of_report;
 use crate::run_texts::put_of_run;
 use crate::start_texts::put_of_start;
@@ -29,6 +30,7 @@ pub(crate) enum About {
     Starts,
     Runs,
     Reports,
+    Refutations,
     Tables,
 }
 
@@ -71,6 +73,7 @@ fn put_answer(
         About::Starts => put_of_start(alloc, out, text, question),
         About::Runs => put_of_run(alloc, out, text, question),
         About::Reports => put_of_report(alloc, out, text, question),
+        About::Refutations => put_of_refutation(alloc, out, text, question),
         About::Tables => put_of_table(alloc, out, text),
     }
 }

@@ -206,6 +206,7 @@ fn put_cause(out: &mut Vec<u8>, cause: NoCause) -> Result<(), NoMemory> {
         NoCause::Strict(place) => put_part(out, b"no strict ", place),
         NoCause::Alive(place) => put_part(out, b"no alive ", place),
         NoCause::Closed(place) => put_part(out, b"no closed ", place),
+        NoCause::Mirror(place) => put_part(out, b"no mirror ", place),
         NoCause::Short => put_text(out, b"no short"),
         NoCause::Spent => put_text(out, b"no spent"),
         NoCause::Bound => put_text(out, b"no bound"),

@@ -25,6 +25,8 @@ mod machines;
 #[cfg(test)]
 mod posts;
 #[cfg(test)]
+mod refutations;
+#[cfg(test)]
 mod reports;
 #[cfg(test)]
 mod rows;

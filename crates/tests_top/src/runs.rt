@@ -595,6 +595,11 @@ fn put_status(found: &mut Vec<u8>, status: Status) -> Result<(), NoMemory> {
         Status::Usage { word } => put_number_of(found, b"usage ", word),
         Status::BadReport { line } => put_number_of(found, b"bad ", line),
         Status::BadTable { code } => put_number_of(found, b"bad table ", u32::from(code)),
+        Status::Found { cost } => {
+            put_text(found, b"found ")?;
+            put_number(found, cost)
+        }
+        Status::Cut => put_text(found, b"cut"),
         Status::TextFault { line, code } => {
             put_number_of(found, b"fault ", line)?;
             put_number_of(found, b" ", u32::from(code))

@@ -6,7 +6,7 @@ use Rattle.un_isa.specs.declared.table.Table.{Table}
 use Rattle.un_ir.specs.declared.function.Function.{Function}
 use Rattle.un_outside.specs.declared.status.NoCause.{NoCause}
 use Rattle.un_outside.specs.declared.status.NoCause.TheVariants.{Name, Solution as Numbers, Cost, Listing, Strict, Alive, Closed as Refuted}
-use Rattle.un_outside.specs.declared.status.NoCause.TheVariants.{Short as Torn, Spent as Leaves, Bound}
+use Rattle.un_outside.specs.declared.status.NoCause.TheVariants.{Mirror, Short as Torn, Spent as Leaves, Bound}
 use Rattle.un_packet.specs.declared.code.Code.{Code as CodeValue}
 use Rattle.un_model.specs.Solutions.{IsSolution, ListsBroken, Tells, broken_clauses, latency_gap}
 use Rattle.un_model.specs.Schedules.{schedule_of}
@@ -152,6 +152,7 @@ module _ (name : List ℕ) (m : Model) (r : Claim) where
   stage (Strict i) x = inr (inr (inl x))
   stage (Alive i) x = inr (inr (inl x))
   stage (Refuted i) x = inr (inr (inl x))
+  stage (Mirror i) x = absurd x
   stage Torn x = inr (inr (inl x))
   stage Leaves x = inr (inr (inr (inl (refl, x.0, x.1))))
   stage Bound x = inr (inr (inr (inr (refl, x.0, x.1, x.2))))

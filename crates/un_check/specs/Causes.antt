@@ -7,7 +7,7 @@ use Rattle.un_isa.specs.declared.table.Table.{Table}
 use Rattle.un_ir.specs.declared.function.Function.{Function}
 use Rattle.un_outside.specs.declared.status.NoCause.{NoCause}
 use Rattle.un_outside.specs.declared.status.NoCause.TheVariants.{Name, Solution as Numbers, Cost, Listing, Strict, Alive, Closed as Refuted}
-use Rattle.un_outside.specs.declared.status.NoCause.TheVariants.{Short as Torn, Spent as Leaves, Bound}
+use Rattle.un_outside.specs.declared.status.NoCause.TheVariants.{Mirror, Short as Torn, Spent as Leaves, Bound}
 use Rattle.un_packet.specs.declared.code.Code.{Code as CodeValue}
 use Rattle.un_model.specs.Cost.{cost_of}
 use Rattle.un_model.specs.Solutions.{IsSolution, ListsBroken, latency_gap}
@@ -132,7 +132,7 @@ module _ (name : List ℕ) (m : Model) (r : Claim) where
     pub leaves : HasRightLeaves r.nodes r.answer r.tree
     pub bound : HasRightBound m r.answer r.tree
 
-  -- the first cause that stands, for a function of this name with this model
+  -- the first cause that stands, for a function of this name with this model; no report has mirror leaves
   abbrev pub IsCause : NoCause → Type 0
   IsCause Name = r.name ≢ name
   IsCause (Numbers k) = (r.name ≡ name) × IsAnswerCause m r.answer (Numbers k)
@@ -141,6 +141,7 @@ module _ (name : List ℕ) (m : Model) (r : Claim) where
   IsCause (Strict i) = IsRightHead × IsTreeCause m (limit_of r.answer) r.tree (Strict i)
   IsCause (Alive i) = IsRightHead × IsTreeCause m (limit_of r.answer) r.tree (Alive i)
   IsCause (Refuted i) = IsRightHead × IsTreeCause m (limit_of r.answer) r.tree (Refuted i)
+  IsCause (Mirror i) = ⊥
   IsCause Torn = IsRightHead × IsTreeCause m (limit_of r.answer) r.tree Torn
   IsCause Leaves = IsRightBody × (HasRightLeaves r.nodes r.answer r.tree → ⊥)
   IsCause Bound = IsRightBody × HasRightLeaves r.nodes r.answer r.tree × (HasRightBound m r.answer r.tree → ⊥)

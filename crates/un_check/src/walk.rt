@@ -16,10 +16,10 @@ use crate::verdict::TreeVerdict;
 use un_base::memory_error::NoMemory;
 use un_base::numbers::later;
 use un_prop::propagator::Scratch;
-use un_walk::branch::branch_of;
 use un_stand::room::{Room, step};
 use un_stand::rules::Rules;
 use un_tree::node::Node;
+use un_walk::branch::branch_of;
 
 /// How far the check of a tree has come.
 #[derive(Drop)]

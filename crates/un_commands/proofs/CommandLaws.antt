@@ -1,5 +1,5 @@
 -- What is so of every command: its numbers are in their ranges, its words are of no other, and each in its ranges has words.
-use Rattle.std.proofs.Common.{ℕ, ◌≡◌, ◌≤◌, inl, inr, List, [], ◌∷◌, ◌++◌, length, drop, Bool, true, false, Option, Some, None, Result, Ok, Err, All, codes, refl, sym, ap, subst, ◌∙◌, arith, lit≤}
+use Rattle.std.proofs.Common.{ℕ, ◌≡◌, ◌<◌, ◌≤◌, ◌^◌, inl, inr, List, [], ◌∷◌, ◌++◌, length, drop, Bool, true, false, Option, Some, None, Result, Ok, Err, All, codes, refl, sym, ap, subst, ◌∙◌, arith, lit≤}
 use Rattle.std.specs.Fmt.{decimal}
 use Rattle.std.specs.List.{flat_map, slice_get}
 use Rattle.std.specs.Option.{option_to_list, IfSome, unwrap_or}
@@ -7,6 +7,7 @@ use Rattle.std.specs.Result.{IfOk, IfErr}
 use Rattle.std.proofs.lemmas.List.{append-nil, length-append}
 use Rattle.std.proofs.lemmas.List.Concat.{flat_map-append}
 use Rattle.std.proofs.lemmas.List.Elements.{All-nil, All-cons, All-head}
+use Rattle.std.proofs.Math.Seq.{drop-append_seam}
 use Rattle.un_isa.specs.declared.reg.TheConstants.{SLOTS}
 use Rattle.un_model.specs.Options.{IsCountOfRegisters}
 use Rattle.un_commands.specs.declared.command.SearchOptions.{SearchOptions}
@@ -14,21 +15,22 @@ use Rattle.un_commands.specs.declared.command.TheConstants.{DEFAULT_NODES}
 use Rattle.un_commands.specs.declared.command.Command.{Command}
 use Rattle.un_commands.specs.declared.command.Command.TheVariants.{Reads, Makes}
 use Rattle.un_commands.specs.declared.command.ReadingCommand.TheVariants.{Alloc, Run, RunCode, Check, Improve, AllocTable, CheckTable, RunCodeTable}
+use Rattle.un_commands.specs.declared.command.ReadingCommand.TheVariants.{Refute, RefuteCheck}
 use Rattle.un_commands.specs.declared.command.MakingCommand.TheVariants.{Generate, GenerateAlloc}
 use Rattle.un_commands.specs.declared.setting.Setting.{Setting}
 use Rattle.un_commands.specs.declared.setting.Setting.TheVariants.{Nodes, Regs, Slots}
 use Rattle.un_commands.specs.declared.setting.Given.{Given}
-use Rattle.un_commands.specs.Alloc.{HasSettings, AreSearchOptions}
+use Rattle.un_commands.specs.Alloc.{alloc_opening, improve_opening, refute_opening, HasSettings, IsRefute, AreSearchOptions}
 use Rattle.un_commands.specs.Commands.{IsCommand, IsBadWord, IsRanged}
 use Rattle.un_commands.specs.Places.{StandsAt}
 use Rattle.un_commands.specs.Settings.{IsCountOfNodes, IsInRange, Part, part_words, settings_in, AsksTable, nodes_in, regs_in, slots_in, Say, over_defaults}
 use Rattle.un_commands.specs.Settings.Part.{Sets, Flag}
 use Rattle.un_commands.proofs.AllocLaws.{line_of}
 use Rattle.un_commands.proofs.GenerateLaws.{plain, costed}
-use Rattle.un_commands.proofs.Openers.{alloc_of, opens_alloc, opens_run, plain as plain_run, coded, tabled, opens_check, opens_improve, opens_gen, read_at, first_words, IsGen, IsTail, ends, goes}
+use Rattle.un_commands.proofs.Openers.{alloc_of, opens_alloc, opens_run, plain as plain_run, coded, tabled, opens_check, opens_improve, opens_refute, asked, checked, opens_limit, opens_gen, read_at, first_words, IsGen, IsTail, ends, goes}
 use Rattle.un_commands.proofs.PartLaws.{begin_with, one_asking}
 use Rattle.un_commands.proofs.SettingLaws.{one_saying, all_values}
-use Rattle.un_commands.proofs.Texts.{some_or_none, one_number}
+use Rattle.un_commands.proofs.Texts.{some_or_none, one_number, no_number}
 use Rattle.un_commands.proofs.WordLaws.{bad_word, command_is_good, bad_word_unique}
 
 each_nodes : (s : Setting) → IsInRange s → All IsCountOfNodes (nodes_in s)
@@ -76,19 +78,23 @@ settings_ranged ss given ranged said = record {
   };
 }
 
+options_ranged : (opening words : List (List ℕ)) (table : Bool) (options : SearchOptions) → HasSettings opening words table options
+    → AreSearchOptions options
+options_ranged opening words table options h =
+    subst AreSearchOptions (sym h.chosen) (settings_ranged (settings_in h.parts) h.given h.ranged h.said)
+
 -- the numbers of a command are in their ranges
 pub is_ranged : (words : List (List ℕ)) (command : Command) → IsCommand words command → IsRanged command
-is_ranged words (Reads (Alloc options)) h =
-    subst AreSearchOptions (sym h.chosen) (settings_ranged (settings_in h.parts) h.given h.ranged h.said)
+is_ranged words (Reads (Alloc options)) h = options_ranged alloc_opening words false options h
 is_ranged words (Reads Run) h = tt
 is_ranged words (Reads RunCode) h = tt
 is_ranged words (Reads Check) h = tt
-is_ranged words (Reads (Improve options)) h =
-    subst AreSearchOptions (sym h.chosen) (settings_ranged (settings_in h.parts) h.given h.ranged h.said)
-is_ranged words (Reads (AllocTable options)) h =
-    subst AreSearchOptions (sym h.chosen) (settings_ranged (settings_in h.parts) h.given h.ranged h.said)
+is_ranged words (Reads (Improve options)) h = options_ranged improve_opening words false options h
+is_ranged words (Reads (AllocTable options)) h = options_ranged alloc_opening words true options h
 is_ranged words (Reads CheckTable) h = tt
 is_ranged words (Reads RunCodeTable) h = tt
+is_ranged words (Reads (Refute limit options)) h = (h.limit_fits, options_ranged (refute_opening limit) words false options h.settings)
+is_ranged words (Reads RefuteCheck) h = tt
 is_ranged words (Makes (Generate seed size)) h = (h.seed_fits, h.size_in)
 is_ranged words (Makes (GenerateAlloc seed size nodes)) h = (h.seed_fits, h.size_in, h.nodes_in)
 
@@ -109,12 +115,13 @@ same_parts ps qs a b e =
     omega (arith, same, parted, length-append (flat_map part_words ps) (flat_map part_words before.0)) in
     before.1 ∙ (ap (λ (us : List Part). ps ++ us) (none_more before.0 none) ∙ append-nil ps)
 
-one_search : (verb : List ℕ) (words : List (List ℕ)) (t u : Bool) (o p : SearchOptions) → HasSettings verb words t o
-    → HasSettings verb words u p
-    → (t ≡ u) × (o ≡ p)
-one_search verb words t u o p a b =
+one_search : (opening words : List (List ℕ)) (t u : Bool) (o p : SearchOptions) → HasSettings opening words t o
+    → HasSettings opening words u p → (t ≡ u) × (o ≡ p)
+one_search opening words t u o p a b =
     let texts : flat_map part_words a.parts ≡ flat_map part_words b.parts =
-    ap (λ (ws : List (List ℕ)). drop 1 ws) (sym a.spelled ∙ b.spelled) in
+    sym (drop-append_seam opening (flat_map part_words a.parts))
+    ∙ (ap (λ (ws : List (List ℕ)). drop (length opening) ws) (sym a.spelled ∙ b.spelled)
+    ∙ drop-append_seam opening (flat_map part_words b.parts)) in
     let same : b.parts ≡ a.parts = same_parts a.parts b.parts a.ranged b.ranged texts in (
       one_asking a.parts t u a.tabled (subst (λ (ps : List Part). AsksTable ps u) same b.tabled),
       a.chosen
@@ -150,11 +157,11 @@ no_code words a b = some_or_none words 1 (codes "--code") (read_at words _ 1 b) 
 one_check : (words : List (List ℕ)) → words ≡ codes "check" ∷ [] → words ≡ codes "check" ∷ codes "--table" ∷ [] → ⊥
 one_check words a b = some_or_none words 1 (codes "--table") (read_at words _ 1 b) (read_at words _ 1 a)
 
-one_alloc : (words : List (List ℕ)) (table : Bool) (options : SearchOptions) (b : Command) → HasSettings (codes "alloc") words table options
+one_alloc : (words : List (List ℕ)) (table : Bool) (options : SearchOptions) (b : Command) → HasSettings alloc_opening words table options
     → IsCommand words b → alloc_of table options ≡ b
 one_alloc words table options b h k =
     let opened = opens_alloc words b k (read_at words _ 0 h.spelled) in
-    let same = one_search (codes "alloc") words table opened.0 options opened.1 h opened.3 in
+    let same = one_search alloc_opening words table opened.0 options opened.1 h opened.3 in
     ap (λ (t : Bool). alloc_of t options) same.0 ∙ (ap (λ (o : SearchOptions). alloc_of opened.0 o) same.1 ∙ sym opened.2)
 
 -- words are those of one command at most
@@ -185,8 +192,17 @@ one_command words (Reads CheckTable) b h k = elim (opens_check words b k (read_a
   | inr with_table ↦ sym with_table.0
 ]
 one_command words (Reads (Improve options)) b h k = let opened = opens_improve words b k (read_at words _ 0 h.spelled) in
-    ap (λ (o : SearchOptions). Reads (Improve o)) (one_search (codes "improve") words false false options opened.0 h opened.2).1
+    ap (λ (o : SearchOptions). Reads (Improve o)) (one_search improve_opening words false false options opened.0 h opened.2).1
     ∙ sym opened.1
+one_command words (Reads (Refute limit options)) b h k =
+    let opened = opens_limit words b limit h.limit_fits k (read_at words _ 0 h.settings.spelled) (read_at words _ 1 h.settings.spelled) in
+    ap (λ (o : SearchOptions). Reads (Refute limit o))
+    (one_search (refute_opening limit) words false false options opened.0 h.settings opened.2).1
+    ∙ sym opened.1
+one_command words (Reads RefuteCheck) b h k = elim (opens_refute words b k (read_at words _ 0 h)) [
+  | asked limit options e w ↦ absurd (no_number words 1 _ limit w.limit_fits (read_at words _ 1 h) (read_at words _ 1 w.settings.spelled))
+  | checked e w ↦ sym e
+]
 one_command words (Makes (Generate seed size)) b h k = one_gen words (Makes (Generate seed size)) b
     (opens_gen words (Makes (Generate seed size)) h (read_at words _ 0 h.spelled)) (opens_gen words b k (read_at words _ 0 h.spelled))
 one_command words (Makes (GenerateAlloc seed size nodes)) b h k = one_gen words (Makes (GenerateAlloc seed size nodes)) b
@@ -230,9 +246,9 @@ all_asked n None k false = refl
 all_asked n (Some r) k true = refl
 all_asked n (Some r) k false = refl
 
-can_be_asked : (verb : List ℕ) (table : Bool) (options : SearchOptions) → AreSearchOptions options
-    → HasSettings verb (line_of verb (all_parts options.nodes options.regs options.slots table)) table options
-can_be_asked verb table options h = record {
+can_be_asked : (opening : List (List ℕ)) (table : Bool) (options : SearchOptions) → AreSearchOptions options
+    → HasSettings opening (line_of opening (all_parts options.nodes options.regs options.slots table)) table options
+can_be_asked opening table options h = record {
   parts = all_parts options.nodes options.regs options.slots table;
   given = all_given options.nodes options.regs options.slots;
   spelled = refl;
@@ -242,19 +258,28 @@ can_be_asked verb table options h = record {
   chosen = refl;
 }
 
+refuted : (limit : ℕ) (options : SearchOptions) → limit < 2 ^ 64 → AreSearchOptions options
+    → IsRefute (line_of (refute_opening limit) (all_parts options.nodes options.regs options.slots false)) limit options
+refuted limit options fits h = record { limit_fits = fits; settings = can_be_asked (refute_opening limit) false options h }
+
 -- each command whose numbers are in their ranges has words
 pub words_for : (command : Command) → IsRanged command → (words : List (List ℕ)) × IsCommand words command
 words_for (Reads (Alloc options)) h =
-    (line_of (codes "alloc") (all_parts options.nodes options.regs options.slots false), can_be_asked (codes "alloc") false options h)
+    (line_of alloc_opening (all_parts options.nodes options.regs options.slots false), can_be_asked alloc_opening false options h)
 words_for (Reads (AllocTable options)) h =
-    (line_of (codes "alloc") (all_parts options.nodes options.regs options.slots true), can_be_asked (codes "alloc") true options h)
+    (line_of alloc_opening (all_parts options.nodes options.regs options.slots true), can_be_asked alloc_opening true options h)
 words_for (Reads CheckTable) h = (codes "check" ∷ codes "--table" ∷ [], refl)
 words_for (Reads RunCodeTable) h = (codes "run" ∷ codes "--code" ∷ codes "--table" ∷ [], refl)
 words_for (Reads Run) h = (codes "run" ∷ [], refl)
 words_for (Reads RunCode) h = (codes "run" ∷ codes "--code" ∷ [], refl)
 words_for (Reads Check) h = (codes "check" ∷ [], refl)
 words_for (Reads (Improve options)) h =
-    (line_of (codes "improve") (all_parts options.nodes options.regs options.slots false), can_be_asked (codes "improve") false options h)
+    (line_of improve_opening (all_parts options.nodes options.regs options.slots false), can_be_asked improve_opening false options h)
+words_for (Reads (Refute limit options)) h = (
+  line_of (refute_opening limit) (all_parts options.nodes options.regs options.slots false),
+  refuted limit options h.0 h.1,
+)
+words_for (Reads RefuteCheck) h = (codes "refute" ∷ codes "--check" ∷ [], refl)
 words_for (Makes (Generate seed size)) h = (codes "gen" ∷ decimal seed ∷ decimal size ∷ [], plain seed size h.0 h.1)
 words_for (Makes (GenerateAlloc seed size nodes)) h = (
   codes "gen" ∷ decimal seed ∷ decimal size ∷ codes "--nodes" ∷ decimal nodes ∷ [],
@@ -263,14 +288,16 @@ words_for (Makes (GenerateAlloc seed size nodes)) h = (
 
 -- no command begins with another first word
 pub bad_first : (words : List (List ℕ)) → ¬ StandsAt words 0 (codes "alloc") → ¬ StandsAt words 0 (codes "run")
-    → ¬ StandsAt words 0 (codes "check") → ¬ StandsAt words 0 (codes "gen") → ¬ StandsAt words 0 (codes "improve") → IsBadWord words 0
-bad_first words alloc run check gen improve = bad_word words 0 (Reads Run) (codes "run" ∷ []) refl refl
+    → ¬ StandsAt words 0 (codes "check") → ¬ StandsAt words 0 (codes "gen") → ¬ StandsAt words 0 (codes "improve")
+    → ¬ StandsAt words 0 (codes "refute") → IsBadWord words 0
+bad_first words alloc run check gen improve refute = bad_word words 0 (Reads Run) (codes "run" ∷ []) refl refl
     (λ other others is alike. elim (first_words others other is) [
       | inl e ↦ alloc (alike 0 (omega arith) ∙ e)
       | inr (inl e) ↦ run (alike 0 (omega arith) ∙ e)
       | inr (inr (inl e)) ↦ check (alike 0 (omega arith) ∙ e)
       | inr (inr (inr (inl e))) ↦ gen (alike 0 (omega arith) ∙ e)
-      | inr (inr (inr (inr e))) ↦ improve (alike 0 (omega arith) ∙ e)
+      | inr (inr (inr (inr (inl e)))) ↦ improve (alike 0 (omega arith) ∙ e)
+      | inr (inr (inr (inr (inr e)))) ↦ refute (alike 0 (omega arith) ∙ e)
     ])
 
 -- an answer that is a command of the words, or the place of their first bad one

@@ -1,5 +1,5 @@
 -- Lists that begin alike, and the first place at which something no longer holds.
-use Rattle.std.proofs.Common.{ℕ, zero, suc, ◌≡◌, ◌+◌, ◌<◌, ◌≤◌, ◌⊎◌, inl, inr, List, [], ◌∷◌, ◌++◌, Some, take, refl, sym, ap, ◌∙◌, arith}
+use Rattle.std.proofs.Common.{ℕ, zero, suc, ◌≡◌, ◌+◌, ◌<◌, ◌≤◌, ◌⊎◌, inl, inr, List, [], ◌∷◌, ◌++◌, length, Some, take, refl, sym, ap, ◌∙◌, arith}
 use Rattle.std.specs.List.{slice_get}
 use Rattle.std.proofs.lemmas.Bool.{cases_lt}
 use Rattle.std.proofs.lemmas.List.{take_more}
@@ -24,6 +24,17 @@ slice_get-take (suc j) (suc k) (x ∷ xs) h = slice_get-take j k xs (omega arith
 -- lists that begin alike have the same at each place there
 pub alike_at : {X : Type 0} (j k : ℕ) (xs ys : List X) → j < k → take k xs ≡ take k ys → slice_get xs j ≡ slice_get ys j
 alike_at j k xs ys h e = sym (slice_get-take j k xs h) ∙ (ap (λ zs. slice_get zs j) e ∙ slice_get-take j k ys h)
+
+-- the items of a list at the places of its front, and of what stands behind that
+pub front_at : {X : Type 0} (xs ys : List X) (j : ℕ) → j < length xs → slice_get (xs ++ ys) j ≡ slice_get xs j
+front_at [] ys j h = absurd (omega arith)
+front_at (x ∷ xs) ys zero h = refl
+front_at (x ∷ xs) ys (suc j) h = front_at xs ys j (omega arith)
+
+pub behind_at : {X : Type 0} (xs ys : List X) (j : ℕ) → slice_get (xs ++ ys) (length xs + j) ≡ slice_get ys j
+behind_at [] ys j = let here : 0 + j ≡ j = omega arith in ap (λ k. slice_get ys k) here
+behind_at (x ∷ xs) ys j = let next : length (x ∷ xs) + j ≡ suc (length xs + j) = omega arith in
+    ap (λ k. slice_get ((x ∷ xs) ++ ys) k) next ∙ behind_at xs ys j
 
 -- the beginning with one item more
 pub take_push : {X : Type 0} (k : ℕ) (xs : List X) (x : X) → slice_get xs k ≡ Some x → take (k + 1) xs ≡ take k xs ++ x ∷ []

@@ -6,6 +6,7 @@ pub mod GenerateLaws
 pub mod Openers
 pub mod PartLaws
 pub mod PlaceLaws
+pub mod RefuteLaws
 pub mod Rows
 pub mod RunLaws
 pub mod SettingLaws

@@ -1,12 +1,13 @@
 -- Lines of words, and what they are.
-use Rattle.std.proofs.Common.{ℕ, ◌≡◌, ◌+◌, ◌<◌, ◌^◌, inl, inr, true, false, List, [], ◌∷◌, ◌++◌, get_or, Some, None, codes, refl, sym, ap, ◌∙◌, arith, lit≤, lit<}
+use Rattle.std.proofs.Common.{ℕ, ◌≡◌, ◌+◌, ◌<◌, ◌^◌, inl, inr, true, false, List, [], ◌∷◌, ◌++◌, get_or, take, Some, None, codes, refl, sym, ap, ◌∙◌, arith, lit≤, lit<}
 use Rattle.std.specs.Fmt.{decimal}
 use Rattle.std.proofs.lemmas.Bool.{eqb-false, true≢false}
 use Rattle.std.proofs.lemmas.Fmt.{decimal_digit, decimal_step, decimal_injective}
 use Rattle.un_commands.specs.declared.command.Command.TheVariants.{Reads}
-use Rattle.un_commands.specs.declared.command.ReadingCommand.TheVariants.{Alloc, RunCode, Check, Improve, AllocTable, CheckTable, RunCodeTable}
+use Rattle.un_commands.specs.declared.command.ReadingCommand.TheVariants.{Alloc, RunCode, Check, Improve, AllocTable, CheckTable, RunCodeTable, Refute, RefuteCheck}
 use Rattle.un_commands.specs.declared.setting.Setting.{Setting}
 use Rattle.un_commands.specs.declared.setting.Setting.TheVariants.{Nodes, Regs, Slots}
+use Rattle.un_commands.specs.Alloc.{alloc_opening, improve_opening, refute_opening}
 use Rattle.un_commands.specs.Commands.{IsCommand, IsBadWord}
 use Rattle.un_commands.specs.Places.{StandsAt, IsFresh}
 use Rattle.un_commands.specs.Settings.{IsInRange, flag_of, number_of, none_given, with_setting}
@@ -14,6 +15,8 @@ use Rattle.un_commands.proofs.AllocLaws.{so_far_none, so_far_more, so_far_flag, 
 use Rattle.un_commands.proofs.CommandLaws.{bad_first}
 use Rattle.un_commands.proofs.GenerateLaws.{bad_size, bad_nodes}
 use Rattle.un_commands.proofs.Openers.{opens_run, plain, coded, tabled, opens_check, read_at}
+use Rattle.un_commands.proofs.RefuteLaws.{bad_limit, bad_refute_end}
+use Rattle.un_commands.proofs.Texts.{no_number}
 use Rattle.un_commands.proofs.WordLaws.{bad_word}
 
 digit : (n : ℕ) → n < 10 → (48 + n) ∷ [] ≡ decimal n
@@ -31,7 +34,7 @@ other_number word m n is small_m small_n e = let same : decimal m ≡ decimal n 
 
 -- no words at all
 nothing : IsBadWord [] 0
-nothing = bad_first [] (λ e. no _ e) (λ e. no _ e) (λ e. no _ e) (λ e. no _ e) (λ e. no _ e)
+nothing = bad_first [] (λ e. no _ e) (λ e. no _ e) (λ e. no _ e) (λ e. no _ e) (λ e. no _ e) (λ e. no _ e)
   where
     no : (w : List ℕ) → None ≡ Some w → ⊥
     no w e = cc
@@ -44,8 +47,9 @@ abbrev unknown : List (List ℕ)
 unknown = codes "alloc" ∷ codes "x" ∷ []
 
 no_option : IsBadWord unknown 1
-no_option = bad_flag (codes "alloc") true (inl (refl, refl)) unknown 1 none_given false (codes "x") refl
-    (so_far_none (codes "alloc") true unknown refl) refl by (λ may e. eqb-false 0 116 refl (third (codes "x") (codes "--table") e))
+no_option = bad_flag alloc_opening true (inl (refl, refl)) unknown 1 none_given false (codes "x")
+    (so_far_none alloc_opening true unknown 1 refl (lit≤ tt)) refl by
+    (λ may e. eqb-false 0 116 refl (third (codes "x") (codes "--table") e))
   where
     by : (s : Setting) → IsFresh none_given s → ¬ StandsAt unknown 1 (flag_of s)
     by (Nodes n) fresh e = eqb-false 0 110 refl (third (codes "x") (codes "--nodes") e)
@@ -54,8 +58,8 @@ no_option = bad_flag (codes "alloc") true (inl (refl, refl)) unknown 1 none_give
 
 -- `alloc --nodes 0`
 no_nodes : IsBadWord (codes "alloc" ∷ codes "--nodes" ∷ codes "0" ∷ []) 2
-no_nodes = bad_value (codes "alloc") true (inl (refl, refl)) (codes "alloc" ∷ codes "--nodes" ∷ codes "0" ∷ []) 1 none_given false refl
-    (so_far_none (codes "alloc") true (codes "alloc" ∷ codes "--nodes" ∷ codes "0" ∷ []) refl)
+no_nodes = bad_value alloc_opening true (inl (refl, refl)) (codes "alloc" ∷ codes "--nodes" ∷ codes "0" ∷ []) 1 none_given false
+    (so_far_none alloc_opening true (codes "alloc" ∷ codes "--nodes" ∷ codes "0" ∷ []) 1 refl (lit≤ tt))
     (record { some = Nodes 1; fresh = refl; ranged = (lit≤ tt, lit≤ tt); flag = refl; none = by })
   where
     by : (s : Setting) → flag_of s ≡ codes "--nodes" → IsInRange s
@@ -66,8 +70,8 @@ no_nodes = bad_value (codes "alloc") true (inl (refl, refl)) (codes "alloc" ∷ 
 
 -- `alloc --regs`
 no_registers : IsBadWord (codes "alloc" ∷ codes "--regs" ∷ []) 2
-no_registers = bad_value (codes "alloc") true (inl (refl, refl)) (codes "alloc" ∷ codes "--regs" ∷ []) 1 none_given false refl
-    (so_far_none (codes "alloc") true (codes "alloc" ∷ codes "--regs" ∷ []) refl)
+no_registers = bad_value alloc_opening true (inl (refl, refl)) (codes "alloc" ∷ codes "--regs" ∷ []) 1 none_given false
+    (so_far_none alloc_opening true (codes "alloc" ∷ codes "--regs" ∷ []) 1 refl (lit≤ tt))
     (record { some = Regs 1; fresh = refl; ranged = (lit≤ tt, lit≤ tt); flag = refl; none = λ s flag ranged e. no _ e })
   where
     no : (w : List ℕ) → None ≡ Some w → ⊥
@@ -78,8 +82,8 @@ abbrev twice : List (List ℕ)
 twice = codes "alloc" ∷ codes "--slots" ∷ codes "1" ∷ codes "--slots" ∷ codes "1" ∷ []
 
 slots_twice : IsBadWord twice 3
-slots_twice = bad_flag (codes "alloc") true (inl (refl, refl)) twice 3 (with_setting none_given (Slots 1)) false (codes "--slots") refl
-    (so_far_more (codes "alloc") true twice 1 none_given false (Slots 1) (so_far_none (codes "alloc") true twice refl)
+slots_twice = bad_flag alloc_opening true (inl (refl, refl)) twice 3 (with_setting none_given (Slots 1)) false (codes "--slots")
+    (so_far_more alloc_opening true twice 1 none_given false (Slots 1) (so_far_none alloc_opening true twice 1 refl (lit≤ tt))
     (record { fresh = refl; flag = refl; number = ap Some (digit 1 (lit< tt)); ranged = lit≤ tt })) refl by
     (λ may e. eqb-false 115 116 refl (third (codes "--slots") (codes "--table") e))
   where
@@ -96,8 +100,8 @@ abbrev two_tables : List (List ℕ)
 two_tables = codes "alloc" ∷ codes "--table" ∷ codes "--table" ∷ []
 
 table_twice : IsBadWord two_tables 2
-table_twice = bad_flag (codes "alloc") true (inl (refl, refl)) two_tables 2 none_given true (codes "--table") refl
-    (so_far_flag (codes "alloc") true two_tables 1 none_given (so_far_none (codes "alloc") true two_tables refl) refl refl) refl by
+table_twice = bad_flag alloc_opening true (inl (refl, refl)) two_tables 2 none_given true (codes "--table")
+    (so_far_flag alloc_opening true two_tables 1 none_given (so_far_none alloc_opening true two_tables 1 refl (lit≤ tt)) refl refl) refl by
     (λ may e. true≢false may.1)
   where
     by : (s : Setting) → IsFresh none_given s → ¬ StandsAt two_tables 2 (flag_of s)
@@ -110,8 +114,8 @@ abbrev improving_by : List (List ℕ)
 improving_by = codes "improve" ∷ codes "--table" ∷ []
 
 no_table : IsBadWord improving_by 1
-no_table = bad_flag (codes "improve") false (inr (refl, refl)) improving_by 1 none_given false (codes "--table") refl
-    (so_far_none (codes "improve") false improving_by refl) refl by (λ may e. true≢false (sym may.0))
+no_table = bad_flag improve_opening false (inr (inl (refl, refl))) improving_by 1 none_given false (codes "--table")
+    (so_far_none improve_opening false improving_by 1 refl (lit≤ tt)) refl by (λ may e. true≢false (sym may.0))
   where
     by : (s : Setting) → IsFresh none_given s → ¬ StandsAt improving_by 1 (flag_of s)
     by (Nodes n) fresh e = eqb-false 116 110 refl (third (codes "--table") (codes "--nodes") e)
@@ -123,9 +127,9 @@ abbrev both : List (List ℕ)
 both = codes "alloc" ∷ codes "--slots" ∷ codes "3" ∷ codes "--nodes" ∷ codes "5" ∷ []
 
 slots_and_nodes : IsCommand both (Reads (Alloc (record { nodes = 5; regs = None; slots = 3 })))
-slots_and_nodes = has_settings (codes "alloc") true both 5 _ false
-    (so_far_more (codes "alloc") true both 3 (with_setting none_given (Slots 3)) false (Nodes 5)
-    (so_far_more (codes "alloc") true both 1 none_given false (Slots 3) (so_far_none (codes "alloc") true both refl)
+slots_and_nodes = has_settings alloc_opening true both 5 _ false
+    (so_far_more alloc_opening true both 3 (with_setting none_given (Slots 3)) false (Nodes 5)
+    (so_far_more alloc_opening true both 1 none_given false (Slots 3) (so_far_none alloc_opening true both 1 refl (lit≤ tt))
     (record { fresh = refl; flag = refl; number = ap Some (digit 3 (lit< tt)); ranged = lit≤ tt }))
     (record { fresh = refl; flag = refl; number = ap Some (digit 5 (lit< tt)); ranged = (lit≤ tt, lit≤ tt) })) refl
 
@@ -134,25 +138,25 @@ abbrev between : List (List ℕ)
 between = codes "alloc" ∷ codes "--slots" ∷ codes "3" ∷ codes "--table" ∷ codes "--nodes" ∷ codes "5" ∷ []
 
 table_between : IsCommand between (Reads (AllocTable (record { nodes = 5; regs = None; slots = 3 })))
-table_between = has_settings (codes "alloc") true between 6 _ true
-    (so_far_more (codes "alloc") true between 4 (with_setting none_given (Slots 3)) true (Nodes 5)
-    (so_far_flag (codes "alloc") true between 3 (with_setting none_given (Slots 3))
-    (so_far_more (codes "alloc") true between 1 none_given false (Slots 3) (so_far_none (codes "alloc") true between refl)
+table_between = has_settings alloc_opening true between 6 _ true
+    (so_far_more alloc_opening true between 4 (with_setting none_given (Slots 3)) true (Nodes 5)
+    (so_far_flag alloc_opening true between 3 (with_setting none_given (Slots 3))
+    (so_far_more alloc_opening true between 1 none_given false (Slots 3) (so_far_none alloc_opening true between 1 refl (lit≤ tt))
     (record { fresh = refl; flag = refl; number = ap Some (digit 3 (lit< tt)); ranged = lit≤ tt })) refl refl)
     (record { fresh = refl; flag = refl; number = ap Some (digit 5 (lit< tt)); ranged = (lit≤ tt, lit≤ tt) })) refl
 
 -- `alloc` alone
 alone : IsCommand (codes "alloc" ∷ []) (Reads (Alloc (record { nodes = 2000; regs = None; slots = 256 })))
-alone = has_settings (codes "alloc") true (codes "alloc" ∷ []) 1 none_given false
-    (so_far_none (codes "alloc") true (codes "alloc" ∷ []) refl) refl
+alone = has_settings alloc_opening true (codes "alloc" ∷ []) 1 none_given false
+    (so_far_none alloc_opening true (codes "alloc" ∷ []) 1 refl (lit≤ tt)) refl
 
 -- `improve --regs 5`
 abbrev improving : List (List ℕ)
 improving = codes "improve" ∷ codes "--regs" ∷ codes "5" ∷ []
 
 improve_with_registers : IsCommand improving (Reads (Improve (record { nodes = 2000; regs = Some 5; slots = 256 })))
-improve_with_registers = has_settings (codes "improve") false improving 3 _ false
-    (so_far_more (codes "improve") false improving 1 none_given false (Regs 5) (so_far_none (codes "improve") false improving refl)
+improve_with_registers = has_settings improve_opening false improving 3 _ false
+    (so_far_more improve_opening false improving 1 none_given false (Regs 5) (so_far_none improve_opening false improving 1 refl (lit≤ tt))
     (record { fresh = refl; flag = refl; number = ap Some (digit 5 (lit< tt)); ranged = (lit≤ tt, lit≤ tt) })) refl
 
 -- `gen 7`
@@ -210,3 +214,35 @@ word_behind_check = bad_word (codes "check" ∷ codes "x" ∷ []) 1 (Reads Check
   where
     no : (w : List ℕ) → Some w ≡ None → ⊥
     no w e = cc
+
+-- `refute 16 --slots 3`
+abbrev refuting : List (List ℕ)
+refuting = codes "refute" ∷ codes "16" ∷ codes "--slots" ∷ codes "3" ∷ []
+
+begins_refuting : take 2 refuting ≡ refute_opening 16
+begins_refuting = ap (λ (w : List ℕ). codes "refute" ∷ w ∷ []) sixteen
+
+refute_with_slots : IsCommand refuting (Reads (Refute 16 (record { nodes = 2000; regs = None; slots = 3 })))
+refute_with_slots = record {
+  limit_fits = lit< tt;
+  settings = has_settings (refute_opening 16) false refuting 4 _ false
+      (so_far_more (refute_opening 16) false refuting 2 none_given false (Slots 3)
+      (so_far_none (refute_opening 16) false refuting 2 begins_refuting (lit≤ tt))
+      (record { fresh = refl; flag = refl; number = ap Some (digit 3 (lit< tt)); ranged = lit≤ tt })) refl;
+}
+
+-- `refute --slots 3 16`
+abbrev limit_behind : List (List ℕ)
+limit_behind = codes "refute" ∷ codes "--slots" ∷ codes "3" ∷ codes "16" ∷ []
+
+limit_is_second : IsBadWord limit_behind 1
+limit_is_second = bad_limit limit_behind refl (λ e. eqb-false 115 99 refl (third (codes "--slots") (codes "--check") e))
+    (λ n fits e. no_number limit_behind 1 _ n fits refl e)
+
+-- `refute --check`
+check_refutation : IsCommand (codes "refute" ∷ codes "--check" ∷ []) (Reads RefuteCheck)
+check_refutation = refl
+
+-- `refute --check y`
+word_behind_refute_check : IsBadWord (codes "refute" ∷ codes "--check" ∷ codes "y" ∷ []) 2
+word_behind_refute_check = bad_refute_end (codes "refute" ∷ codes "--check" ∷ codes "y" ∷ []) refl refl (lit< tt)

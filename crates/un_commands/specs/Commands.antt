@@ -3,8 +3,9 @@ use Rattle.std.specs.Prelude.{ℕ, ◌≡◌, ◌+◌, ◌<◌, ◌^◌, List, [
 use Rattle.un_commands.specs.declared.command.Command.{Command}
 use Rattle.un_commands.specs.declared.command.Command.TheVariants.{Reads, Makes}
 use Rattle.un_commands.specs.declared.command.ReadingCommand.TheVariants.{Alloc, Run, RunCode, Check, Improve, AllocTable, CheckTable, RunCodeTable}
+use Rattle.un_commands.specs.declared.command.ReadingCommand.TheVariants.{Refute, RefuteCheck}
 use Rattle.un_commands.specs.declared.command.MakingCommand.TheVariants.{Generate, GenerateAlloc}
-use Rattle.un_commands.specs.Alloc.{IsAlloc, IsAllocTable, IsImprove, AreSearchOptions}
+use Rattle.un_commands.specs.Alloc.{IsAlloc, IsAllocTable, IsImprove, IsRefute, AreSearchOptions}
 use Rattle.un_commands.specs.Generate.{IsSize, IsGenerate, IsGenerateAlloc}
 use Rattle.un_commands.specs.Settings.{IsCountOfNodes}
 
@@ -18,6 +19,8 @@ IsCommand words (Reads (Improve options)) = IsImprove words options
 IsCommand words (Reads (AllocTable options)) = IsAllocTable words options
 IsCommand words (Reads CheckTable) = words ≡ codes "check" ∷ codes "--table" ∷ []
 IsCommand words (Reads RunCodeTable) = words ≡ codes "run" ∷ codes "--code" ∷ codes "--table" ∷ []
+IsCommand words (Reads (Refute limit options)) = IsRefute words limit options
+IsCommand words (Reads RefuteCheck) = words ≡ codes "refute" ∷ codes "--check" ∷ []
 IsCommand words (Makes (Generate seed size)) = IsGenerate words seed size
 IsCommand words (Makes (GenerateAlloc seed size nodes)) = IsGenerateAlloc words seed size nodes
 
@@ -44,5 +47,7 @@ IsRanged (Reads (Improve options)) = AreSearchOptions options
 IsRanged (Reads (AllocTable options)) = AreSearchOptions options
 IsRanged (Reads CheckTable) = Unit {0}
 IsRanged (Reads RunCodeTable) = Unit {0}
+IsRanged (Reads (Refute limit options)) = (limit < 2 ^ 64) × AreSearchOptions options
+IsRanged (Reads RefuteCheck) = Unit {0}
 IsRanged (Makes (Generate seed size)) = (seed < 2 ^ 64) × IsSize size
 IsRanged (Makes (GenerateAlloc seed size nodes)) = (seed < 2 ^ 64) × IsSize size × IsCountOfNodes nodes

@@ -1,7 +1,8 @@
-//! The words of the commands that search: `alloc` and `improve`, each with settings, and `alloc` with the flag `--table` among them too.
+//! The words of the commands that search: settings behind other words, and `alloc` and `improve`, which have them at once; `alloc` has the
+//! flag `--table` among them too.
 
-ghost use Rattle.std.specs.Prelude.{◌≡◌, ◌↔◌, ◌+◌, ◌<◌, ◌^◌, IfOk, IfErr, IsTrue, codes, true};
-ghost use Rattle.un_commands.specs.Alloc.{IsSearchWord, HasSettings};
+ghost use Rattle.std.specs.Prelude.{◌≡◌, ◌↔◌, ◌+◌, ◌<◌, ◌≤◌, ◌^◌, IfOk, IfErr, IsTrue, codes, length, take, true};
+ghost use Rattle.un_commands.specs.Alloc.{IsOpening, HasSettings};
 ghost use Rattle.un_commands.specs.Commands.{IsCommand, IsBadWord};
 ghost use Rattle.un_commands.specs.Places.{StandsAt, IsNext, IsBadSetting, MayAsk};
 
@@ -43,21 +44,24 @@ fn asks_table(flag: &Word, takes: bool, table: bool) -> bool
     takes && !table && flag.is(b"--table")
 }
 
-/// Whether the flag `--table` stands behind a first word, where it may, and the options that the settings there spell, each once.
+/// Whether the flag `--table` stands among the settings from a place on, where it may, and the options that these spell, each once.
 ///
 /// # Errors
 /// The first place that is bad.
-fn read_settings(words: &[Word], verb: &[u8], takes: bool) -> Result<(bool, SearchOptions), u32>
-    requires named { IsSearchWord verb.now takes }
-    requires first { StandsAt words.now 0 verb.now }
-    ensures ok { IfOk result (λ asked. HasSettings verb.now words.now asked.0 asked.1) }
+pub(crate) fn read_settings(
+    words: &[Word],
+    from: u32,
+    takes: bool,
+) -> Result<(bool, SearchOptions), u32>
+    requires opened { IsOpening (take from words.now) takes }
+    requires within { from ≤ length words.now }
+    ensures ok { IfOk result (λ asked. HasSettings (take from words.now) words.now asked.0 asked.1) }
     ensures may { IfOk result (λ asked. asked.0 ≡ true → takes ≡ true) }
     ensures bad { IfErr result (IsBadWord words.now) }
 {
-    let _ = verb;
     let mut given = Given::nothing();
     let mut table = false;
-    let mut place = 1;
+    let mut place = from;
     while let Some(flag) = words.get(place as usize) {
         if asks_table(flag, takes, table) {
             table = true;
@@ -75,13 +79,13 @@ fn read_settings(words: &[Word], verb: &[u8], takes: bool) -> Result<(bool, Sear
 ///
 /// # Errors
 /// The first place that is bad.
-#[tactic(auto, using(crate::proofs::Openers::with_flag, crate::proofs::Openers::without_flag))]
+#[tactic(auto, using(crate::proofs::Openers::with_flag, crate::proofs::Openers::without_flag, crate::proofs::Openers::alloc_opens))]
 pub fn read_alloc(words: &[Word]) -> Result<Command, u32>
     requires { StandsAt words.now 0 (codes "alloc") }
     ensures ok { IfOk result (IsCommand words.now) }
     ensures bad { IfErr result (IsBadWord words.now) }
 {
-    let (table, options) = read_settings(words, b"alloc", true)?;
+    let (table, options) = read_settings(words, 1, true)?;
     if table {
         Ok(Command::Reads(ReadingCommand::AllocTable(options)))
     } else {
@@ -93,12 +97,12 @@ pub fn read_alloc(words: &[Word]) -> Result<Command, u32>
 ///
 /// # Errors
 /// The first place that is bad.
-#[tactic(auto, using(crate::proofs::Openers::improves))]
+#[tactic(auto, using(crate::proofs::Openers::improves, crate::proofs::Openers::improve_opens))]
 pub fn read_improve(words: &[Word]) -> Result<Command, u32>
     requires { StandsAt words.now 0 (codes "improve") }
     ensures ok { IfOk result (IsCommand words.now) }
     ensures bad { IfErr result (IsBadWord words.now) }
 {
-    let (_, options) = read_settings(words, b"improve", false)?;
+    let (_, options) = read_settings(words, 1, false)?;
     Ok(Command::Reads(ReadingCommand::Improve(options)))
 }

@@ -18,7 +18,7 @@ pub struct SearchOptions {
     pub nodes: u32,
     /// How many general registers it may assign, r0 to r(n − 1), where n is 1 to 29; None for all of r0 to r28 and r31.
     pub regs: Option<u32>,
-    /// How many frame slots it may use, 0 to 64.
+    /// How many frame slots it may use, 0 to 256.
     pub slots: u32,
 }
 
@@ -56,6 +56,10 @@ pub enum ReadingCommand {
     CheckTable,
     /// What code does from a start by such a table.
     RunCodeTable,
+    /// Whether a function has code that costs less than a limit.
+    Refute { limit: u64, options: SearchOptions },
+    /// Whether the refutation of a function is accepted.
+    RefuteCheck,
 }
 
 /// What it may ask for without one.

@@ -8,5 +8,6 @@ mod generate;
 pub mod laws;
 pub mod line;
 mod place;
+mod refute;
 mod run;
 pub mod setting;

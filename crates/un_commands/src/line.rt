@@ -7,6 +7,7 @@ use crate::alloc::{read_alloc, read_improve};
 use crate::check::read_check;
 use crate::command::Command;
 use crate::generate::read_generate;
+use crate::refute::read_refute;
 use crate::run::read_run;
 use un_outside::words::Word;
 
@@ -34,6 +35,8 @@ pub fn read_command(words: &[Word]) -> Result<Command, u32>
         read_generate(words)
     } else if first.is(b"improve") {
         read_improve(words)
+    } else if first.is(b"refute") {
+        read_refute(words)
     } else {
         Err(0)
     }

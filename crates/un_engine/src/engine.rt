@@ -12,6 +12,7 @@ use std::alloc::Global;
 use std::marker::Model;
 use un_base::ids::VarId;
 use un_base::memory_error::NoMemory;
+use un_domains::side::Side;
 use un_domains::store::Store;
 use un_domains::trail::Words;
 use un_prop::changed::run_from;
@@ -20,7 +21,6 @@ use un_prop::propagator::{Propagator, Scratch};
 use un_prop::queue::{Queue, measure, rest_all, wake_all};
 use un_prop::readers::Readers;
 use un_prop::run::Fix;
-use un_domains::side::Side;
 
 /// Propagators with a store, and all that runs of them need. Where no set is empty, no propagator changes the sets. Contracts
 /// see the propagators, and the sets with their marks.

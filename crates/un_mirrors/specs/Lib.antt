@@ -1,1 +1,4 @@
+pub mod Exchanged
 pub mod Mirrors
+pub mod Shortened
+pub mod Works

@@ -2,7 +2,7 @@
 use Rattle.std.specs.Prelude.{ℕ}
 use Rattle.un_outside.specs.declared.status.Status.{Status}
 use Rattle.un_outside.specs.declared.status.Status.TheVariants.{Done, Infeasible, Spent, TextFault, Usage, ReadFault, WriteFault, NoMemory, No}
-use Rattle.un_outside.specs.declared.status.Status.TheVariants.{BadReport, BadTable}
+use Rattle.un_outside.specs.declared.status.Status.TheVariants.{BadReport, Found, Cut, BadTable}
 
 -- the exit status of the program
 abbrev pub number_of : Status → ℕ
@@ -16,4 +16,6 @@ number_of WriteFault = 6
 number_of NoMemory = 7
 number_of (No cause) = 8
 number_of (BadReport line) = 9
+number_of (Found cost) = 10
+number_of Cut = 11
 number_of (BadTable code) = 12

@@ -20,6 +20,8 @@ pub enum NoCause {
     Alive(u32),
     /// The tree's node at this place, from 0, is a closed leaf that propagation does not refute.
     Closed(u32),
+    /// The tree's node at this place, from 0, is a mirror leaf that mirrors no finished side.
+    Mirror(u32),
     /// The tree's list ends inside the tree, or goes on after it.
     Short,
     /// A leaf is open and the budget of nodes was not used, or the answer does not fit the leaves.
@@ -51,12 +53,16 @@ pub enum Status {
     No(NoCause),
     /// The input's second part is not in its grammar, at this line of it, from 1.
     BadReport { line: u32 },
+    /// Code was found that costs less than was asked.
+    Found { cost: u64 },
+    /// The budget of nodes was used before an answer.
+    Cut,
     /// The text of a table is refused, by the cause of this number, 1 to 5.
     BadTable { code: u8 },
 }
 
 impl Status {
-    /// The exit status of the program: 0 to 9 in the order of the variants, and 12 for a refused table.
+    /// The exit status of the program: 0 to 12 in the order of the variants.
     pub fn number(&self) -> u8
         ensures { result ≡ number_of self.now }
     {
@@ -71,6 +77,8 @@ impl Status {
             Status::NoMemory => 7,
             Status::No(_) => 8,
             Status::BadReport { .. } => 9,
+            Status::Found { .. } => 10,
+            Status::Cut => 11,
             Status::BadTable { .. } => 12,
         }
     }

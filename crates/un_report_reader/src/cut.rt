@@ -15,7 +15,7 @@ pub(crate) fn after<'a>(text: &'a [u8], start: &[u8]) -> Option<&'a [u8]>
 }
 
 /// What stands between these first bytes and the first byte `end` behind them, and what stands behind that.
-pub(crate) fn field<'a>(text: &'a [u8], start: &[u8], end: u8) -> Option<(&'a [u8], &'a [u8])>
+pub fn field<'a>(text: &'a [u8], start: &[u8], end: u8) -> Option<(&'a [u8], &'a [u8])>
     ensures some { IfSome result (λ p. IsField text.now start.now end p.0.now p.1.now) }
     ensures none { IfNone result ((word rest : List ℕ) → text.now ≢ start.now ++ (word ++ end ∷ rest)) }
 {
@@ -32,7 +32,7 @@ fn within(n: u64, least: u64, most: u64) -> bool
 }
 
 /// The number from `least` to `most` between these first bytes and the byte `end`, and what stands behind that.
-pub(crate) fn number<'a>(
+pub fn number<'a>(
     text: &'a [u8],
     start: &[u8],
     end: u8,

@@ -37,7 +37,7 @@ pub(crate) struct Head<'a> {
 }
 
 /// The number from `least` to `most` behind the word of a line.
-pub(crate) fn number_line<'a>(
+pub fn number_line<'a>(
     at: Place<'a>,
     word: &[u8],
     least: u64,
@@ -65,7 +65,7 @@ fn name_of(text: &[u8]) -> Option<(&[u8], &[u8])>
 }
 
 /// The line of the function's name.
-fn name_line<'a>(at: Place<'a>) -> Result<(&'a [u8], Place<'a>), ReportError>
+pub fn name_line<'a>(at: Place<'a>) -> Result<(&'a [u8], Place<'a>), ReportError>
     ensures ok { IfOk result (λ p. IsRead IsName function_text one at.entry p.0.now p.1) }
     ensures bad { IfErr result (IsErrorAt (IsBadLine IsName function_text) at.entry) }
 {
@@ -76,7 +76,7 @@ fn name_line<'a>(at: Place<'a>) -> Result<(&'a [u8], Place<'a>), ReportError>
 }
 
 /// How many registers a text tells.
-fn regs_of(word: &[u8]) -> Option<Option<u32>>
+pub fn regs_of(word: &[u8]) -> Option<Option<u32>>
     ensures some { IfSome result (λ r. IfSome r IsCountOfRegisters × (word.now ≡ regs_text r)) }
     ensures none { IfNone result ((r : Option ℕ) → IfSome r IsCountOfRegisters → word.now ≢ regs_text r) }
 {

@@ -2,13 +2,13 @@
 #![tactic(auto)]
 
 mod answer;
-mod cut;
+pub mod cut;
 pub mod error;
-mod head;
+pub mod head;
 pub mod kind;
 pub mod limits;
 mod listing;
 mod numbers;
-mod place;
+pub mod place;
 pub mod read;
-mod tree;
+pub mod tree;

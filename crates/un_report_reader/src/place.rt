@@ -9,17 +9,13 @@ use un_base::numbers::later;
 
 /// What is left of a text, and how many lines stand before it.
 #[derive(Clone, Copy)]
-pub(crate) struct Place<'a> {
-    pub(crate) rest: &'a [u8],
-    pub(crate) lines: u32,
+pub struct Place<'a> {
+    pub rest: &'a [u8],
+    pub lines: u32,
 }
 
 /// The place so many lines later, where this is left.
-pub(crate) fn behind<'a>(
-    at: Place<'a>,
-    rest: &'a [u8],
-    lines: u32,
-) -> Result<Place<'a>, ReportError>
+pub fn behind<'a>(at: Place<'a>, rest: &'a [u8], lines: u32) -> Result<Place<'a>, ReportError>
     ensures rest { IfOk result (λ next. next.rest.now ≡ rest.now) }
     ensures lines { IfOk result (λ next. next.lines ≡ at.entry.lines + lines) }
     ensures err { IfErr result (λ e. e ≡ Error.NoMemory) }
@@ -29,7 +25,7 @@ pub(crate) fn behind<'a>(
 }
 
 /// The answer where a line is bad, counted from a place. A number that is too large for a line is answered as want of memory.
-pub(crate) fn bad_line(at: Place, line: u32) -> ReportError
+pub fn bad_line(at: Place, line: u32) -> ReportError
     ensures bad { Names (at.entry.lines + line) result }
     ensures exact { at.entry.lines + line < 2 ^ 32 → result ≡ Error.BadReport (at.entry.lines + line) }
 {

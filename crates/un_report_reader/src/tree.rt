@@ -60,7 +60,7 @@ fn end_line(at: Place) -> Result<Place, ReportError>
 }
 
 /// Asks for the end, and nothing behind it.
-pub(crate) fn end(at: Place) -> Result<(), ReportError>
+pub fn end(at: Place) -> Result<(), ReportError>
     ensures ok { OnOk result (at.entry.rest.now ≡ end_text tt) }
     ensures bad { IfErr result (IsErrorAt InEnd at.entry) }
 {

@@ -8,11 +8,11 @@ ghost use Rattle.un_search.specs.Dives.{base_of};
 use std::marker::Model;
 use un_base::ids::VarId;
 use un_base::memory_error::NoMemory;
+use un_domains::side::Side;
 use un_domains::store::Store;
 use un_engine::engine::Engine;
 use un_kinds::any::AnyProp;
 use un_prop::run::Fix;
-use un_domains::side::Side;
 
 /// An engine in which no set is empty, and how many decisions may still be made. Contracts see its propagators, and the sets from which
 /// it went down.

@@ -7,11 +7,11 @@ ghost use Rattle.un_tree.specs.Boxes.{Splits};
 use crate::order::BlockOrder;
 use un_base::ids::VarId;
 use un_base::memory_error::NoMemory;
+use un_domains::side::Side;
 use un_engine::engine::Engine;
 use un_kinds::any::AnyProp;
 use un_levels::rounds::Choice;
 use un_prop::run::Fix;
-use un_domains::side::Side;
 
 /// Whether the rounds fail at once where a variable is at most a value.
 fn fails_at(engine: &mut Engine<AnyProp>, v: VarId, x: u32) -> Result<bool, NoMemory>

@@ -18,9 +18,9 @@ use crate::window::{Hint, Site, Window};
 use std::alloc::{AllocError, Global};
 use un_base::ids::VarId;
 use un_base::memory_error::NoMemory;
+use un_domains::side::Side;
 use un_first::first::judged;
 use un_model::model::{Model, Solution};
-use un_domains::side::Side;
 
 /// How many cycles the windows have.
 const WIDTHS: [u32; 2] = [4, 8];

@@ -20,6 +20,7 @@ use std::alloc::Global;
 use un_base::memory_error::NoMemory;
 use un_bound::relax::{RelaxAnswer, relax_bound};
 use un_branching::problem::Look;
+use un_domains::side::Side;
 use un_domains::store::Store;
 use un_engine::engine::Engine;
 use un_kinds::any::AnyProp;
@@ -27,7 +28,6 @@ use un_levels::rounds::{Choice, Rounds};
 use un_model::model::Model;
 use un_prop::propagator::Scratch;
 use un_prop::run::Fix;
-use un_domains::side::Side;
 use un_tree::node::Decision;
 
 /// The stores of a search at a node, with room for looks at them.

@@ -14,17 +14,17 @@ ghost use Rattle.un_walk.specs.Routes.{paths_after};
 ghost use Rattle.un_walk.specs.Turns.{paths_behind, paths_at};
 
 use crate::rules::Rules;
-use un_walk::stand;
-use un_walk::stand::Stand;
 use std::alloc::Global;
 use un_base::ids::VarId;
 use un_base::memory_error::NoMemory;
+use un_domains::side::Side;
 use un_engine::engine::Engine;
 use un_kinds::any::AnyProp;
 use un_post::post::Posted;
 use un_prop::run::Fix;
-use un_domains::side::Side;
 use un_tree::node::Decision;
+use un_walk::stand;
+use un_walk::stand::Stand;
 
 /// Where a walk over a model's tree stands. The rounds do not fail on the boxes that the first decisions make, and fail on those of
 /// the others.

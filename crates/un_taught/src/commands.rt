@@ -8,12 +8,12 @@ use un_commands::line::read_command;
 use un_outside::words::Word;
 
 /// The first words of commands.
-static COMMANDS: [&str; 11] = [
-    "alloc", "run", "check", "improve", "gen", "asm", "compare", "sweep", "import", "inspect",
-    "build",
+static COMMANDS: [&str; 12] = [
+    "alloc", "run", "check", "improve", "refute", "gen", "asm", "compare", "sweep", "import",
+    "inspect", "build",
 ];
 
-/// The options of `alloc`; `improve` has the first three.
+/// The options of `alloc`; `improve` and `refute` have the first three.
 static OPTIONS: [&str; 6] = ["--nodes", "--regs", "--slots", "--all", "--json", "--out"];
 
 /// What is said of a word: what is wrong, and what would be accepted.
@@ -69,7 +69,7 @@ fn first_advice(alloc: Global, words: &[Word]) -> Result<Advice, NoMemory> {
         None => advised(
             wrong,
             format!(in alloc;
-                "the commands are alloc, run, check, improve, gen, asm, compare, sweep, import, inspect and build"
+                "the commands are alloc, run, check, improve, refute, gen, asm, compare, sweep, import, inspect and build"
             ),
         ),
     }
@@ -134,9 +134,14 @@ fn option_advice(alloc: Global, words: &[Word], place: usize) -> Result<Advice, 
     }
 }
 
-/// What is said of a word of `alloc` or `improve`: options stand at odd places, their numbers behind them.
-fn alloc_advice(alloc: Global, words: &[Word], place: usize) -> Result<Advice, NoMemory> {
-    if place.rem_euclid(2) == 1 {
+/// What is said of a word of a command that searches: options stand at every second place from the first on, their numbers behind them.
+fn search_advice(
+    alloc: Global,
+    words: &[Word],
+    first: usize,
+    place: usize,
+) -> Result<Advice, NoMemory> {
+    if place.saturating_sub(first).rem_euclid(2) == 0 {
         return option_advice(alloc, words, place);
     }
     match words.get(place.saturating_sub(1)) {
@@ -184,14 +189,31 @@ fn more_advice(
     )
 }
 
+/// What is said of a word of `refute`, which has a limit with options behind it, or `--check` alone.
+fn refute_advice(alloc: Global, words: &[Word], place: usize) -> Result<Advice, NoMemory> {
+    if place == 1 {
+        return advised(
+            format!(in alloc; "the limit is a whole number from 0 to 18446744073709551615"),
+            format!(in alloc; "`refute C`, with options behind it, or `refute --check`"),
+        );
+    }
+    match words.get(1) {
+        Some(second) if second.is(b"--check") => {
+            more_advice(alloc, words, place, "refute --check")
+        }
+        _ => search_advice(alloc, words, 2, place),
+    }
+}
+
 /// What is said of words by the first place at which no command begins with them.
 fn advice_at(alloc: Global, words: &[Word], place: usize) -> Result<Advice, NoMemory> {
     let Some(first) = words.first() else {
         return first_advice(alloc, words);
     };
     match first.as_bytes() {
-        b"alloc" => alloc_advice(alloc, words, place),
-        b"improve" => alloc_advice(alloc, words, place),
+        b"alloc" => search_advice(alloc, words, 1, place),
+        b"improve" => search_advice(alloc, words, 1, place),
+        b"refute" => refute_advice(alloc, words, place),
         b"gen" => gen_advice(alloc, words, place),
         b"run" => more_advice(
             alloc,

@@ -10,7 +10,7 @@ use Rattle.std.specs.Result.{IfErr, IfOk, OnErr, OnOk}
 use Rattle.un_outside.specs.Causes.{AppendsPrefix}
 use Rattle.un_outside.specs.declared.status.Status.{Status}
 use Rattle.un_outside.specs.declared.status.Status.TheVariants.{Done, Infeasible, Spent, TextFault, Usage, ReadFault, WriteFault, NoMemory, No}
-use Rattle.un_outside.specs.declared.status.Status.TheVariants.{BadReport, BadTable}
+use Rattle.un_outside.specs.declared.status.Status.TheVariants.{BadReport, BadTable, Found, Cut}
 use Rattle.un_commands.proofs.CommandLaws.{one_command}
 use Rattle.un_commands.proofs.WordLaws.{command_is_good}
 use Rattle.un_commands.specs.Commands.{IsCommand}
@@ -65,6 +65,8 @@ refuses_told told b laws text before now ReadFault is h = absurd (laws.is_late t
 refuses_told told b laws text before now WriteFault is h = late_told told b laws text WriteFault is h
 refuses_told told b laws text before now NoMemory is h = tt
 refuses_told told b laws text before now (No cause) is h = late_told told b laws text (No cause) is h
+refuses_told told b laws text before now (Found cost) is h = late_told told b laws text (Found cost) is h
+refuses_told told b laws text before now Cut is h = late_told told b laws text Cut is h
 refuses_told told b laws text before now (BadReport l) is h = late_told told b laws text (BadReport l) is h
 refuses_told told b laws text before now (BadTable c) is h = late_told told b laws text (BadTable c) is h
 
@@ -136,6 +138,8 @@ refuses_by words command told before now ReadFault asked h = h
 refuses_by words command told before now WriteFault asked h = late_by words command told WriteFault asked h
 refuses_by words command told before now NoMemory asked h = tt
 refuses_by words command told before now (No cause) asked h = late_by words command told (No cause) asked h
+refuses_by words command told before now (Found cost) asked h = late_by words command told (Found cost) asked h
+refuses_by words command told before now Cut asked h = late_by words command told Cut asked h
 refuses_by words command told before now (BadReport l) asked h = late_by words command told (BadReport l) asked h
 refuses_by words command told before now (BadTable c) asked h = late_by words command told (BadTable c) asked h
 
@@ -219,6 +223,8 @@ is_refusal words told before now ReadFault h = tt
 is_refusal words told before now WriteFault h = h.0
 is_refusal words told before now NoMemory h = tt
 is_refusal words told before now (No cause) h = h.0
+is_refusal words told before now (Found cost) h = h.0
+is_refusal words told before now Cut h = h.0
 is_refusal words told before now (BadReport l) h = h.0
 is_refusal words told before now (BadTable c) h = h.0
 
@@ -302,6 +308,8 @@ refused_fault words text line code before now ReadFault r h = tt
 refused_fault words text line code before now WriteFault r h = absurd (late_fault words text WriteFault line code r.1 h)
 refused_fault words text line code before now NoMemory r h = tt
 refused_fault words text line code before now (No cause) r h = absurd (late_fault words text (No cause) line code r.1 h)
+refused_fault words text line code before now (Found cost) r h = absurd (late_fault words text (Found cost) line code r.1 h)
+refused_fault words text line code before now Cut r h = absurd (late_fault words text Cut line code r.1 h)
 refused_fault words text line code before now (BadReport l) r h = absurd (late_fault words text (BadReport l) line code r.1 h)
 refused_fault words text line code before now (BadTable c) r h = absurd (late_fault words text (BadTable c) line code r.1 h)
 
@@ -329,6 +337,8 @@ refused_late words text before now ReadFault late r h = tt
 refused_late words text before now WriteFault late r h = one_late_of words text WriteFault late r.1 h
 refused_late words text before now NoMemory late r h = tt
 refused_late words text before now (No cause) late r h = one_late_of words text (No cause) late r.1 h
+refused_late words text before now (Found cost) late r h = one_late_of words text (Found cost) late r.1 h
+refused_late words text before now Cut late r h = one_late_of words text Cut late r.1 h
 refused_late words text before now (BadReport l) late r h = one_late_of words text (BadReport l) late r.1 h
 refused_late words text before now (BadTable c) late r h = one_late_of words text (BadTable c) late r.1 h
 
@@ -356,6 +366,8 @@ late_refusal words told before now ReadFault late r = absurd late
 late_refusal words told before now WriteFault late r = absurd late
 late_refusal words told before now NoMemory late r = absurd late
 late_refusal words told before now (No cause) late r = absurd late
+late_refusal words told before now (Found cost) late r = absurd late
+late_refusal words told before now Cut late r = absurd late
 late_refusal words told before now (BadReport l) late r = r.1
 late_refusal words told before now (BadTable c) late r = r.1
 
@@ -369,6 +381,8 @@ not_late ReadFault w late = late
 not_late WriteFault w late = late
 not_late NoMemory w late = late
 not_late (No cause) w late = late
+not_late (Found cost) w late = late
+not_late Cut w late = late
 not_late (BadReport l) w late = w
 not_late (BadTable c) w late = w
 
@@ -396,6 +410,8 @@ accepted_by words text command ReadFault asked good told = tt
 accepted_by words text command WriteFault asked good told = tt
 accepted_by words text command NoMemory asked good told = tt
 accepted_by words text command (No cause) asked good told = tt
+accepted_by words text command (Found cost) asked good told = tt
+accepted_by words text command Cut asked good told = tt
 accepted_by words text command (BadReport l) asked good told = tt
 accepted_by words text command (BadTable c) asked good told = tt
 
@@ -418,6 +434,8 @@ refused_out ReadFault words text old new r k = k
 refused_out WriteFault words text old new r k = absurd r
 refused_out NoMemory words text old new r k = k
 refused_out (No cause) words text old new r k = absurd r
+refused_out (Found cost) words text old new r k = absurd r
+refused_out Cut words text old new r k = absurd r
 refused_out (BadReport l) words text old new r k = k
 refused_out (BadTable c) words text old new r k = k
 
@@ -433,6 +451,8 @@ whole_out words text out old new ReadFault w o a = absurd w
 whole_out words text out old new WriteFault w o a = absurd w
 whole_out words text out old new NoMemory w o a = absurd w
 whole_out words text out old new (No cause) w o a = (out, o, a)
+whole_out words text out old new (Found cost) w o a = (out, o, a)
+whole_out words text out old new Cut w o a = (out, o, a)
 whole_out words text out old new (BadReport l) w o a = absurd w
 whole_out words text out old new (BadTable c) w o a = absurd w
 
@@ -461,6 +481,8 @@ written_keeps ReadFault old new w = absurd w
 written_keeps WriteFault old new w = absurd w
 written_keeps NoMemory old new w = absurd w
 written_keeps (No cause) old new w = tt
+written_keeps (Found cost) old new w = tt
+written_keeps Cut old new w = tt
 written_keeps (BadReport l) old new w = absurd w
 written_keeps (BadTable c) old new w = absurd w
 
@@ -475,6 +497,8 @@ refused_keeps ReadFault old new r k = (k, λ w. w)
 refused_keeps WriteFault old new r k = absurd r
 refused_keeps NoMemory old new r k = (k, λ w. w)
 refused_keeps (No cause) old new r k = absurd r
+refused_keeps (Found cost) old new r k = absurd r
+refused_keeps Cut old new r k = absurd r
 refused_keeps (BadReport l) old new r k = (k, λ w. w)
 refused_keeps (BadTable c) old new r k = (k, λ w. w)
 
@@ -502,6 +526,8 @@ not_written ReadFault r w = w
 not_written WriteFault r w = w
 not_written NoMemory r w = w
 not_written (No cause) r w = r
+not_written (Found cost) r w = r
+not_written Cut r w = r
 not_written (BadReport l) r w = w
 not_written (BadTable c) r w = w
 

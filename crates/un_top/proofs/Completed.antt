@@ -9,7 +9,7 @@ use Rattle.un_commands.specs.declared.command.Command.TheVariants.{Reads}
 use Rattle.un_commands.specs.declared.command.ReadingCommand.{ReadingCommand}
 use Rattle.un_outside.specs.declared.status.Status.{Status}
 use Rattle.un_outside.specs.declared.status.Status.TheVariants.{Done, Infeasible, Spent, TextFault, Usage, ReadFault, WriteFault, NoMemory, No}
-use Rattle.un_outside.specs.declared.status.Status.TheVariants.{BadReport, BadTable}
+use Rattle.un_outside.specs.declared.status.Status.TheVariants.{BadReport, BadTable, Found, Cut}
 use Rattle.un_top.specs.Behaviours.{behaviour_of}
 use Rattle.un_top.specs.Runs.{IsLate, IsOutputOf, IsFaultOf, IsLateOf, OutAfter}
 use Rattle.un_top.proofs.Answered.{fault_as, late_as, output_as}
@@ -38,6 +38,8 @@ module _ (words : List (List ℕ)) (text : List ℕ) (command : ReadingCommand) 
   completed WriteFault u f b r w o = inr (inl (w refl))
   completed NoMemory u f b r w o = let laws = lawful command in inr (inr (laws.short text))
   completed (No cause) u f b r w o = inr (inr (wrote_well words command text o.0 (No cause) asked o.1))
+  completed (Found cost) u f b r w o = inr (inr (wrote_well words command text o.0 (Found cost) asked o.1))
+  completed Cut u f b r w o = inr (inr (wrote_well words command text o.0 Cut asked o.1))
   completed (BadReport l) u f b r w o = let laws = lawful command in absurd (laws.good_late text (BadReport l) good (late_as words command text (BadReport l) asked (b tt)))
   completed (BadTable c) u f b r w o = let laws = lawful command in absurd (laws.good_late text (BadTable c) good (late_as words command text (BadTable c) asked (b tt)))
 

@@ -7,7 +7,7 @@ use Rattle.un_baseline.specs.RoomyOptions.{AreRoomyFor}
 use Rattle.un_baseline.specs.SpilledCost.{spill_cost}
 use Rattle.un_commands.specs.Alloc.{model_options}
 use Rattle.un_commands.specs.declared.command.ReadingCommand.{ReadingCommand}
-use Rattle.un_commands.specs.declared.command.ReadingCommand.TheVariants.{Alloc, Run, RunCode, Check, Improve, AllocTable, CheckTable, RunCodeTable}
+use Rattle.un_commands.specs.declared.command.ReadingCommand.TheVariants.{Alloc, Run, RunCode, Check, Improve, AllocTable, CheckTable, RunCodeTable, Refute, RefuteCheck}
 use Rattle.un_commands.specs.declared.command.SearchOptions.{SearchOptions}
 use Rattle.un_faults.specs.declared.fault.Fault.TheVariants.{TooMany}
 use Rattle.un_ir.specs.declared.function.Function.{Function}
@@ -20,10 +20,15 @@ use Rattle.un_model.specs.declared.model.Model.{Model}
 use Rattle.un_model.specs.declared.model.Options.{Options}
 use Rattle.un_model.specs.declared.model.Solution.{Solution}
 use Rattle.un_outside.specs.declared.status.NoCause.{NoCause}
+use Rattle.un_outside.specs.declared.status.NoCause.TheVariants.{Name, Strict, Closed, Mirror, Short as Torn}
 use Rattle.un_outside.specs.declared.status.Status.{Status}
 use Rattle.un_outside.specs.declared.status.Status.TheVariants.{Done, Infeasible, Spent, TextFault, Usage, ReadFault, WriteFault, NoMemory, No}
-use Rattle.un_outside.specs.declared.status.Status.TheVariants.{BadReport, BadTable}
+use Rattle.un_outside.specs.declared.status.Status.TheVariants.{BadReport, BadTable, Found, Cut}
 use Rattle.un_reader.specs.Read.{IsRead, too_long}
+use Rattle.un_top.proofs.RefutationLines.{one_refutation_line, refutation_not_bad}
+use Rattle.un_refutation.specs.declared.refutation.Refutation.{Refutation}
+use Rattle.un_refutes.specs.declared.verdict.SymVerdict.{SymVerdict}
+use Rattle.un_refutes.specs.declared.verdict.SymVerdict.TheVariants.{Yes, NotStrict, NotClosed, NotMirror, Short}
 use Rattle.un_report.specs.declared.report.Answered.{Answered}
 use Rattle.un_report.specs.declared.report.Answered.TheVariants.{Code, Infeasible as NoSolution, Spent as Stopped}
 use Rattle.un_report_reader.proofs.Alone.{numbers_not_bad}
@@ -33,9 +38,10 @@ use Rattle.un_runs.specs.Refusals.{IsBadSourceRun, IsBadCodeRun}
 use Rattle.un_target.proofs.TableLaws.{one_cause, not_both}
 use Rattle.un_target.specs.Causes.{code_of}
 use Rattle.un_top.specs.Behaviours.{Behaviour, behaviour_of, of_alloc, of_run, of_run_code, of_check, of_improve, of_alloc_table, of_check_table, of_run_code_table, IsBadPart, IsPartFault, IsDone, IsSearched}
-use Rattle.un_top.specs.Behaviours.{IsChecked, EndsSearch, EndsCheck, EndsImprove}
+use Rattle.un_top.specs.Behaviours.{IsChecked, IsRefuteEnd, EndsSearch, EndsCheck, EndsImprove, EndsRefute, of_refute, of_refutation}
 use Rattle.un_top.specs.Checks.{IsBadCheck, told_status}
 use Rattle.un_top.specs.Improvements.{IsAnswerTo, IsBadNumbers}
+use Rattle.un_top.specs.Refutations.{IsAnswerBelow, IsOfAnother, IsJudgedSo, IsBadRefutation, verdict_status}
 use Rattle.un_top.specs.Reports.{IsReportOf, status_of}
 use Rattle.un_top.specs.Runs.{IsLate}
 use Rattle.un_top.specs.Tables.{IsGoodTable, IsCodeOf, IsLateBy}
@@ -85,6 +91,8 @@ bad_line bad text ReadFault h = absurd h
 bad_line bad text WriteFault h = absurd h
 bad_line bad text NoMemory h = absurd h
 bad_line bad text (No cause) h = absurd h
+bad_line bad text (Found cost) h = absurd h
+bad_line bad text Cut h = absurd h
 bad_line bad text (BadTable code) h = absurd h
 
 part_late : (bad : List ℕ → ℕ → Type 0) (text : List ℕ) (status : Status) → IsBadPart bad text status → IsLate status
@@ -272,6 +280,8 @@ late_cases table line ReadFault h = absurd h
 late_cases table line WriteFault h = absurd h
 late_cases table line NoMemory h = absurd h
 late_cases table line (No cause) h = absurd h
+late_cases table line (Found cost) h = absurd h
+late_cases table line Cut h = absurd h
 
 -- so neither may be where both are impossible
 no_late : (table line : ℕ → Type 0) (status : Status) → ((code : ℕ) → table code → ⊥) → ((n : ℕ) → line n → ⊥) → IsLateBy table line status → ⊥
@@ -369,6 +379,81 @@ run_code_table_lawful = record {
   short = λ text. tt;
 }
 
+-- ---- whether a function has code below a limit
+
+below_ends : (f : Function) (m : Model) (nodes limit : ℕ) (status : Status) (out : List ℕ) → IsAnswerBelow f m nodes limit status out
+    → EndsRefute status
+below_ends f m nodes limit Done out h = inl refl
+below_ends f m nodes limit Infeasible out h = absurd h
+below_ends f m nodes limit Spent out h = absurd h
+below_ends f m nodes limit (TextFault line code) out h = absurd h
+below_ends f m nodes limit (Usage place) out h = absurd h
+below_ends f m nodes limit ReadFault out h = absurd h
+below_ends f m nodes limit WriteFault out h = absurd h
+below_ends f m nodes limit NoMemory out h = absurd h
+below_ends f m nodes limit (No cause) out h = absurd h
+below_ends f m nodes limit (Found cost) out h = inr (inl (cost, refl))
+below_ends f m nodes limit Cut out h = inr (inr refl)
+below_ends f m nodes limit (BadReport line) out h = absurd h
+below_ends f m nodes limit (BadTable code) out h = absurd h
+
+ends_below : (status : Status) → EndsRefute status → IsRefuteEnd status
+ends_below status (inl e) = subst IsRefuteEnd (sym e) tt
+ends_below status (inr (inl found)) = subst IsRefuteEnd (sym found.1) tt
+ends_below status (inr (inr e)) = subst IsRefuteEnd (sym e) tt
+
+refute_lawful : (limit : ℕ) (o : SearchOptions) → IsLawful (of_refute limit o)
+refute_lawful limit o = record {
+  too_long = λ text long. record { fault = TooMany; is = too_long long; coded = refl };
+  one_fault = fault_unique;
+  output_fault = λ text status out line code h f. read_has_no_fault text h.function line code h.read f;
+  late_fault = λ text status line code late f. late;
+  no_fault = λ text line code good f. read_has_no_fault text good.0 line code good.1 f;
+  good_fault = λ text line code good f. read_has_no_fault text good.0 line code good.1 f;
+  is_late = λ text status late. absurd late;
+  one_late = λ text s t a b. absurd a;
+  output_late = λ text status out late h l. l;
+  good_late = λ text late good l. l;
+  ends = λ text status out h. below_ends h.function h.model o.nodes limit status out h.answer;
+  well = λ text status out h. ends_below status (below_ends h.function h.model o.nodes limit status out h.answer);
+  short = λ text. tt;
+}
+
+-- ---- the answer to a refutation
+
+verdict_ends : (status : Status) (v : SymVerdict) → status ≡ verdict_status v → EndsCheck status
+verdict_ends status Yes e = inl e
+verdict_ends status (NotStrict i) e = inr (Strict i, e)
+verdict_ends status (NotClosed i) e = inr (Closed i, e)
+verdict_ends status (NotMirror i) e = inr (Mirror i, e)
+verdict_ends status Short e = inr (Torn, e)
+
+refutation_ends : (t : Table) (f : Function) (r : Refutation) (status : Status) (out : List ℕ)
+    → IsOfAnother f r status out ⊎ IsJudgedSo t f r status out → EndsCheck status
+refutation_ends t f r status out (inl other) = inr (Name, other.ends)
+refutation_ends t f r status out (inr judged) = verdict_ends status judged.verdict judged.ends
+
+refutation_lawful : IsLawful of_refutation
+refutation_lawful = record {
+  too_long = λ text long. inl (record { long = long; no_line = refl; too_many = refl });
+  one_fault = part_fault;
+  output_fault = λ text status out line code h. read_part text h.1.function line code h.0 h.1.read;
+  late_fault = λ text status line code late. (let at = bad_line IsBadRefutation text status late in
+      read_part text at.3.function line code at.2 at.3.read);
+  no_fault = λ text line code good. read_part text good.1.0 line code good.0 good.1.1;
+  good_fault = λ text line code good. read_part text good.1.function line code good.0 good.1.read;
+  is_late = part_late IsBadRefutation;
+  one_late = one_part IsBadRefutation (λ text m n a b. one_refutation_line (second_part text) m n a.bad b.bad);
+  output_late = λ text status out late h l. (let at = bad_line IsBadRefutation text late l in
+      let own = h.1.told in refutation_not_bad (second_part text) own.refutation at.0 own.read at.3.bad);
+  good_late = λ text late good l. (let at = bad_line IsBadRefutation text late l in
+      refutation_not_bad (second_part text) good.1.refutation at.0 good.1.refuted at.3.bad);
+  ends = λ text status out h. (let own = h.1.told in refutation_ends (table_of LAST) h.1.function own.refutation status out own.told);
+  well = λ text status out h. (let own = h.1.told in
+      ends_checked status (refutation_ends (table_of LAST) h.1.function own.refutation status out own.told));
+  short = λ text. tt;
+}
+
 -- ---- all commands over an input
 
 pub lawful : (command : ReadingCommand) → IsLawful (behaviour_of command)
@@ -380,3 +465,5 @@ lawful (Improve o) = improve_lawful o
 lawful (AllocTable o) = alloc_table_lawful o
 lawful CheckTable = check_table_lawful
 lawful RunCodeTable = run_code_table_lawful
+lawful (Refute limit o) = refute_lawful limit o
+lawful RefuteCheck = refutation_lawful

@@ -9,6 +9,8 @@ pub mod ImproveLaws
 pub mod Lawful
 pub mod Parts
 pub mod Refused
+pub mod RefutationLines
+pub mod RefuteLaws
 pub mod ReportLines
 pub mod Rows
 pub mod SearchLaws

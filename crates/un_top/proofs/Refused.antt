@@ -9,11 +9,13 @@ use Rattle.un_reader.specs.Read.{IsTextFault}
 use Rattle.un_reader.specs.declared.error.ReadError.{ReadError}
 use Rattle.un_reader.specs.declared.error.ReadError.TheVariants as ReadErrors
 use Rattle.un_report_reader.specs.Readings.{IsErrorOf, IsNumbersError}
+use Rattle.un_refutation.specs.Readings.{IsErrorOf as IsRefutationError}
 use Rattle.un_report_reader.specs.declared.error.ReportError.{ReportError}
 use Rattle.un_report_reader.specs.declared.error.ReportError.TheVariants as ReportErrors
-use Rattle.un_top.specs.Behaviours.{of_alloc, of_run, of_run_code, of_check, of_improve}
+use Rattle.un_top.specs.Behaviours.{of_alloc, of_run, of_run_code, of_check, of_improve, of_refute, of_refutation}
 use Rattle.un_top.specs.Checks.{RefusesReport, RefusesCheck, unread_by, unviewed_by}
 use Rattle.un_top.specs.Improvements.{RefusesNumbers, RefusesImprovement}
+use Rattle.un_top.specs.Refutations.{RefusesRefutation, RefusesRefutationCheck}
 use Rattle.un_top.specs.Runs.{RefusesText, status_by}
 use Rattle.un_top.specs.declared.limits.TheConstants.{INPUT}
 
@@ -28,6 +30,10 @@ unviewed text (ReportErrors.BadReport line) told = told
 pub unnumbered : (text : List ℕ) (error : ReportError) → IsNumbersError text error → RefusesNumbers text (unviewed_by error)
 unnumbered text ReportErrors.NoMemory told = tt
 unnumbered text (ReportErrors.BadReport line) told = told
+
+pub unrefuted : (text : List ℕ) (error : ReportError) → IsRefutationError text error → RefusesRefutation text (unviewed_by error)
+unrefuted text ReportErrors.NoMemory told = tt
+unrefuted text (ReportErrors.BadReport line) told = told
 
 pub function_refused : (o : SearchOptions) (text : List ℕ) (refused : Refused) → RefusesFunction text refused
     → RefusesText (of_alloc o) text (status_by refused)
@@ -58,3 +64,15 @@ pub improve_refused : (o : SearchOptions) (text : List ℕ) (refused : Refused) 
 improve_refused o text NoMemory few told = tt
 improve_refused o text (TextFault line code) few told = inr (few, told)
 improve_refused o text (BadSecond line) few told = (few, told)
+
+pub refute_refused : (limit : ℕ) (o : SearchOptions) (text : List ℕ) (refused : Refused) → RefusesFunction text refused
+    → RefusesText (of_refute limit o) text (status_by refused)
+refute_refused limit o text NoMemory told = tt
+refute_refused limit o text (TextFault line code) told = told
+refute_refused limit o text (BadSecond line) told = absurd told
+
+pub refutation_refused : (text : List ℕ) (refused : Refused) → length text ≤ INPUT → RefusesRefutationCheck text refused
+    → RefusesText of_refutation text (status_by refused)
+refutation_refused text NoMemory few told = tt
+refutation_refused text (TextFault line code) few told = inr (few, told)
+refutation_refused text (BadSecond line) few told = (few, told)

@@ -34,7 +34,7 @@ use Rattle.un_tree.specs.declared.node.Node.{Node}
 -- ---- a part, and what is behind it
 
 -- lines behind a part are one where those of what is left are
-one_behind : {V : Type 0} (good : V → Type 0) (text_of : V → List ℕ) (lines_of : V → ℕ) (later : V → List ℕ → ℕ → Type 0)
+pub one_behind : {V : Type 0} (good : V → Type 0) (text_of : V → List ℕ) (lines_of : V → ℕ) (later : V → List ℕ → ℕ → Type 0)
     → Once good text_of → ((v : V) (rest : List ℕ) (m n : ℕ) → later v rest m → later v rest n → m ≡ n) → (text : List ℕ) (m n : ℕ)
     → IsBadBehind good text_of lines_of later text m → IsBadBehind good text_of lines_of later text n → m ≡ n
 one_behind {V} good text_of lines_of later once each text m n b c =
@@ -44,7 +44,7 @@ one_behind {V} good text_of lines_of later once each text m n b c =
     b.numbered ∙ (ap (λ (k : ℕ). lines_of b.value + k) (each b.value b.rest b.behind c.behind b.is_bad there)
     ∙ (ap (λ (w : V). lines_of w + c.behind) (sym same.0) ∙ sym c.numbered))
 
-one_line : {V : Type 0} (good : V → Type 0) (text_of : V → List ℕ) (later : V → List ℕ → ℕ → Type 0)
+pub one_line : {V : Type 0} (good : V → Type 0) (text_of : V → List ℕ) (later : V → List ℕ → ℕ → Type 0)
     → Once good text_of → ((v : V) (rest : List ℕ) (m n : ℕ) → later v rest m → later v rest n → m ≡ n) → (text : List ℕ) (m n : ℕ)
     → InLine good text_of later text m → InLine good text_of later text n → m ≡ n
 one_line good text_of later once each text m n (inl b) (inl c) = b.1 ∙ sym c.1
@@ -52,7 +52,7 @@ one_line good text_of later once each text m n (inl b) (inr c) = absurd (b.0 c.v
 one_line good text_of later once each text m n (inr b) (inl c) = absurd (c.0 b.value b.rest b.is_good b.whole)
 one_line good text_of later once each text m n (inr b) (inr c) = one_behind good text_of one later once each text m n b c
 
-long_once : (word : List ℕ) → Once IsLong (number_text word)
+pub long_once : (word : List ℕ) → Once IsLong (number_text word)
 long_once word = number_line_once word 0 (2 ^ 64 - 1) (omega arith)
 
 short_once : (word : List ℕ) → Once IsShort (number_text word)
@@ -85,7 +85,7 @@ one_bad_node count text m n b c = by (cases_lt (length b.before) (length c.befor
         (recursion_from_All Fits c.before c.fit) h (sym b.whole ∙ c.whole) b.is_bad)
     by (inr h) = by_other h (cases_lt (length c.before) (length b.before))
 
-one_end : (text : List ℕ) (m n : ℕ) → InEnd text m → InEnd text n → m ≡ n
+pub one_end : (text : List ℕ) (m n : ℕ) → InEnd text m → InEnd text n → m ≡ n
 one_end = one_line IsPlain end_text (λ v. InNothing) end_once (λ v rest m n b c. b.1 ∙ sym c.1)
 
 one_nodes : (count : ℕ) (text : List ℕ) (m n : ℕ) → InNodes count text m → InNodes count text n → m ≡ n

@@ -7,7 +7,7 @@ use Rattle.un_commands.specs.declared.command.Command.TheVariants.{Reads, Makes}
 use Rattle.un_commands.specs.declared.command.MakingCommand.{MakingCommand}
 use Rattle.un_commands.specs.declared.command.MakingCommand.TheVariants.{Generate, GenerateAlloc}
 use Rattle.un_commands.specs.declared.command.ReadingCommand.{ReadingCommand}
-use Rattle.un_commands.specs.declared.command.ReadingCommand.TheVariants.{Alloc, Run, RunCode, Check, Improve, AllocTable, CheckTable, RunCodeTable}
+use Rattle.un_commands.specs.declared.command.ReadingCommand.TheVariants.{Alloc, Run, RunCode, Check, Improve, AllocTable, CheckTable, RunCodeTable, Refute, RefuteCheck}
 use Rattle.un_commands.specs.declared.command.SearchOptions.{SearchOptions}
 use Rattle.un_ir.specs.declared.function.Function.{Function}
 use Rattle.un_isa.specs.Hexagon.{HEXAGON}
@@ -16,7 +16,7 @@ use Rattle.un_isa.specs.declared.table.TheConstants.{LAST}
 use Rattle.un_outside.specs.declared.status.NoCause.{NoCause}
 use Rattle.un_outside.specs.declared.status.NoCause.TheVariants.{Solution}
 use Rattle.un_outside.specs.declared.status.Status.{Status}
-use Rattle.un_outside.specs.declared.status.Status.TheVariants.{Done, Infeasible, Spent, NoMemory, No, BadReport}
+use Rattle.un_outside.specs.declared.status.Status.TheVariants.{Done, Infeasible, Spent, NoMemory, No, BadReport, Found, Cut}
 use Rattle.un_reader.specs.Read.{IsRead}
 use Rattle.un_reader.specs.declared.limits.TheConstants.{TEXT}
 use Rattle.un_runs.specs.Grammars.{IsSourceInput, IsCodeInput}
@@ -26,6 +26,7 @@ use Rattle.un_runs.specs.Shown.{IsSourceRun, IsCodeRun, IsGeneratedText}
 use Rattle.un_top.specs.Checks.{IsCheck, IsCheckInput, IsBadCheck}
 use Rattle.un_top.specs.Generated.{IsGeneratedReport}
 use Rattle.un_top.specs.Improvements.{IsImprovement, IsNumbersInput, IsBadNumbers}
+use Rattle.un_top.specs.Refutations.{IsRefuting, IsRefutationCheck, IsRefutationInput, IsBadRefutation}
 use Rattle.un_top.specs.Reports.{IsReportOf}
 use Rattle.un_top.specs.Tables.{IsTableReport, IsTableCheck, IsTableRun, IsFunctionTable, IsTableCheckInput, IsTableRunInput}
 use Rattle.un_top.specs.Tables.{IsLateReport, IsLateCheck, IsLateRun}
@@ -94,6 +95,12 @@ abbrev pub IsChecked : Status → Type 0
 IsChecked (No cause) = Unit {0}
 IsChecked status = IsDone status
 
+-- or code was found, or the nodes were used
+abbrev pub IsRefuteEnd : Status → Type 0
+IsRefuteEnd (Found cost) = Unit {0}
+IsRefuteEnd Cut = Unit {0}
+IsRefuteEnd status = IsDone status
+
 abbrev pub EndsDone : Status → Type 0
 EndsDone status = status ≡ Done
 
@@ -106,6 +113,10 @@ EndsCheck status = (status ≡ Done) ⊎ ((cause : NoCause) × (status ≡ No ca
 -- there is code, or the numbers are no schedule
 abbrev pub EndsImprove : Status → Type 0
 EndsImprove status = (status ≡ Done) ⊎ ((clause : ℕ) × (status ≡ No (Solution clause)))
+
+-- there is none below the limit, or there is, or the nodes were used
+abbrev pub EndsRefute : Status → Type 0
+EndsRefute status = (status ≡ Done) ⊎ (((cost : ℕ) × (status ≡ Found cost)) ⊎ (status ≡ Cut))
 
 -- ---- the commands over an input
 
@@ -174,6 +185,32 @@ of_improve o = record {
   EndsWell = λ text status. IsChecked status;
 }
 
+-- whether a function has code below a limit
+abbrev pub of_refute : ℕ → SearchOptions → Behaviour
+of_refute limit o = record {
+  most = TEXT;
+  Output = λ text status out. IsRefuting (table_of LAST) (model_options o) o.nodes limit text status out;
+  Ending = EndsRefute;
+  Fault = IsFault;
+  Faultless = λ text. (f : Function) × IsRead text f;
+  Late = NoneLate;
+  Good = λ text. (f : Function) × IsRead text f;
+  EndsWell = λ text status. IsRefuteEnd status;
+}
+
+-- the answer to a refutation
+abbrev pub of_refutation : Behaviour
+of_refutation = record {
+  most = INPUT;
+  Output = λ text status out. (length text ≤ INPUT) × IsRefutationCheck (table_of LAST) text status out;
+  Ending = EndsCheck;
+  Fault = IsPartFault;
+  Faultless = HasNoPartFault;
+  Late = IsBadPart IsBadRefutation;
+  Good = λ text. (length text ≤ INPUT) × IsRefutationInput text;
+  EndsWell = λ text status. IsChecked status;
+}
+
 -- ---- the same by a table that is a part of the input
 
 abbrev pub of_alloc_table : SearchOptions → Behaviour
@@ -222,6 +259,8 @@ behaviour_of (Improve o) = of_improve o
 behaviour_of (AllocTable o) = of_alloc_table o
 behaviour_of CheckTable = of_check_table
 behaviour_of RunCodeTable = of_run_code_table
+behaviour_of (Refute limit o) = of_refute limit o
+behaviour_of RefuteCheck = of_refutation
 
 -- ---- the commands without one
 

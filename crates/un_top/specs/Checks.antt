@@ -10,7 +10,7 @@ use Rattle.un_model.specs.declared.model.Model.{Model}
 use Rattle.un_outside.specs.declared.status.Status.{Status}
 use Rattle.un_outside.specs.declared.status.Status.TheVariants.{Done, No}
 use Rattle.un_outside.specs.declared.status.NoCause.{NoCause}
-use Rattle.un_outside.specs.declared.status.NoCause.TheVariants.{Name, Solution, Cost, Listing, Strict, Alive, Closed, Short, Spent, Bound}
+use Rattle.un_outside.specs.declared.status.NoCause.TheVariants.{Name, Solution, Cost, Listing, Strict, Alive, Closed, Mirror, Short, Spent, Bound}
 use Rattle.un_problem.specs.Problems.{IsModelOf}
 use Rattle.un_reader.specs.Read.{IsRead}
 use Rattle.un_reader.specs.declared.error.ReadError.{ReadError}
@@ -51,6 +51,7 @@ no_line Listing = codes "no listing\n"
 no_line (Strict place) = counted_line (codes "no strict ") place
 no_line (Alive place) = counted_line (codes "no alive ") place
 no_line (Closed place) = counted_line (codes "no closed ") place
+no_line (Mirror place) = counted_line (codes "no mirror ") place
 no_line Short = codes "no short\n"
 no_line Spent = codes "no spent\n"
 no_line Bound = codes "no bound\n"

@@ -2,6 +2,7 @@ pub mod Behaviours
 pub mod Checks
 pub mod Generated
 pub mod Improvements
+pub mod Refutations
 pub mod Reports
 pub mod Runs
 pub mod Searches

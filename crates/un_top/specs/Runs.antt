@@ -12,7 +12,7 @@ use Rattle.un_commands.specs.declared.command.ReadingCommand.{ReadingCommand}
 use Rattle.un_outside.specs.Causes.{Rose, AppendsPrefix}
 use Rattle.un_outside.specs.declared.status.Status.{Status}
 use Rattle.un_outside.specs.declared.status.Status.TheVariants.{Done, Infeasible, Spent, TextFault, Usage, ReadFault, WriteFault, NoMemory, No}
-use Rattle.un_outside.specs.declared.status.Status.TheVariants.{BadReport, BadTable}
+use Rattle.un_outside.specs.declared.status.Status.TheVariants.{BadReport, BadTable, Found, Cut}
 use Rattle.un_runs.specs.declared.refused.Refused.{Refused}
 use Rattle.un_runs.specs.declared.refused.Refused.TheVariants as RefusedBy
 use Rattle.un_top.specs.Behaviours.{Behaviour, behaviour_of, IsOutput, Ends}
@@ -25,6 +25,8 @@ IsWritten Done = Unit {0}
 IsWritten Infeasible = Unit {0}
 IsWritten Spent = Unit {0}
 IsWritten (No cause) = Unit {0}
+IsWritten (Found cost) = Unit {0}
+IsWritten Cut = Unit {0}
 IsWritten _ = ⊥
 
 -- the answers that come of what a command reads behind its function
@@ -113,6 +115,8 @@ OutAfter Done words text old new = Outputs Done words text old new
 OutAfter Infeasible words text old new = Outputs Infeasible words text old new
 OutAfter Spent words text old new = Outputs Spent words text old new
 OutAfter (No cause) words text old new = Outputs (No cause) words text old new
+OutAfter (Found cost) words text old new = Outputs (Found cost) words text old new
+OutAfter Cut words text old new = Outputs Cut words text old new
 OutAfter WriteFault words text old new =
     (status : Status) × (out : List ℕ) × IsOutputOf words text status out × AppendsPrefix old new out
 OutAfter _ words text old new = new ≡ old
@@ -128,6 +132,8 @@ KeepsOut Done old new = Unit {0}
 KeepsOut Infeasible old new = Unit {0}
 KeepsOut Spent old new = Unit {0}
 KeepsOut (No cause) old new = Unit {0}
+KeepsOut (Found cost) old new = Unit {0}
+KeepsOut Cut old new = Unit {0}
 KeepsOut WriteFault old new = Unit {0}
 KeepsOut _ old new = new ≡ old
 
@@ -204,5 +210,7 @@ line_of ReadFault = codes "read fault\n"
 line_of WriteFault = codes "write fault\n"
 line_of NoMemory = codes "no memory\n"
 line_of (No cause) = []
+line_of (Found cost) = []
+line_of Cut = []
 line_of (BadReport line) = numbered (codes "bad report: line ") line
 line_of (BadTable code) = table_line code

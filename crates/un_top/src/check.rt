@@ -40,7 +40,7 @@ fn put_yes(out: &mut Vec<u8>, answer: &Answered) -> Result<(), NoMemory>
 }
 
 /// Appends a line of words and a number.
-fn put_counted(out: &mut Vec<u8>, words: &[u8], n: u64) -> Result<(), NoMemory>
+pub(crate) fn put_counted(out: &mut Vec<u8>, words: &[u8], n: u64) -> Result<(), NoMemory>
     ensures { OnOk result (out.new.items ≡ out.old.items ++ counted_line words.now n) }
 {
     put_text(out, words)?;
@@ -60,6 +60,7 @@ pub(crate) fn put_no(out: &mut Vec<u8>, cause: NoCause) -> Result<(), NoMemory>
         NoCause::Strict(place) => put_counted(out, b"no strict ", u64::from(place)),
         NoCause::Alive(place) => put_counted(out, b"no alive ", u64::from(place)),
         NoCause::Closed(place) => put_counted(out, b"no closed ", u64::from(place)),
+        NoCause::Mirror(place) => put_counted(out, b"no mirror ", u64::from(place)),
         NoCause::Short => put_text(out, b"no short\n"),
         NoCause::Spent => put_text(out, b"no spent\n"),
         NoCause::Bound => put_text(out, b"no bound\n"),

@@ -111,6 +111,7 @@ pub fn write_line<K: Sink>(sink: &mut K, status: Status) -> Result<(), Failed>
 {
     match status {
         Status::Done | Status::Infeasible | Status::Spent | Status::No(_) => write_all(sink, b""),
+        Status::Found { .. } | Status::Cut => write_all(sink, b""),
         Status::TextFault { line, code } => write_fault(sink, line, code),
         Status::Usage { word } => write_numbered(sink, b"usage: word ", word),
         Status::ReadFault => write_all(sink, b"read fault\n"),

@@ -12,5 +12,7 @@ pub mod output;
 pub mod produce;
 pub mod program;
 mod reading;
+mod refutation;
+mod refute;
 pub mod run;
 pub mod search;

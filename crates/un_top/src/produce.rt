@@ -25,6 +25,8 @@ use crate::improve::improve_input;
 use crate::limits::INPUT;
 use crate::output::{Output, printed};
 use crate::reading::function_of;
+use crate::refutation::refutation_output;
+use crate::refute::refute_output;
 use crate::search::search_report;
 use std::alloc::Global;
 use un_base::memory_error::NoMemory;
@@ -200,6 +202,8 @@ fn most_bytes(command: ReadingCommand) -> usize
         ReadingCommand::AllocTable(_) => INPUT,
         ReadingCommand::CheckTable => INPUT,
         ReadingCommand::RunCodeTable => INPUT,
+        ReadingCommand::Refute { .. } => TEXT,
+        ReadingCommand::RefuteCheck => INPUT,
     }
 }
 
@@ -220,6 +224,8 @@ fn over_input(alloc: Global, command: ReadingCommand, text: &[u8]) -> Result<Out
         ReadingCommand::AllocTable(options) => table_report(alloc, text, options),
         ReadingCommand::CheckTable => table_check(alloc, text),
         ReadingCommand::RunCodeTable => table_run(alloc, text),
+        ReadingCommand::Refute { limit, options } => refute_output(alloc, text, limit, options),
+        ReadingCommand::RefuteCheck => refutation_output(alloc, text),
     }
 }
 

@@ -1,17 +1,21 @@
-//! What the program reads of texts: a function, the view of a report, and the numbers of a solution.
+//! What the program reads of texts: a function, the view of a report, the numbers of a solution, and a refutation.
 
 ghost use Rattle.std.specs.Prelude.{◌≡◌, IfOk, IfErr};
 ghost use Rattle.un_reader.specs.Read.{IsRead};
 ghost use Rattle.un_report_reader.specs.Readings.{IsViewRead, IsNumbers};
+ghost use Rattle.un_refutation.specs.Readings.{IsRefutationRead};
 ghost use Rattle.un_runs.specs.Refusals.{RefusesFunction};
 ghost use Rattle.un_top.specs.Checks.{unread_by, unviewed_by, RefusesReport};
 ghost use Rattle.un_top.specs.Improvements.{RefusesNumbers};
+ghost use Rattle.un_top.specs.Refutations.{RefusesRefutation};
 
 use std::alloc::Global;
 use un_ir::function::Function;
 use un_model::model::Solution;
 use un_reader::error::ReadError;
 use un_reader::read::read_function;
+use un_refutation::read::read_refutation;
+use un_refutation::refutation::Refutation;
 use un_report::view::ReportView;
 use un_report_reader::error::ReportError;
 use un_report_reader::read::{read_numbers, read_view};
@@ -66,6 +70,17 @@ pub(crate) fn numbers_of(alloc: Global, text: &[u8]) -> Result<Solution, Refused
 {
     match read_numbers(alloc, text) {
         Ok(s) => Ok(s),
+        Err(error) => Err(unviewed_by(error)),
+    }
+}
+
+/// The refutation that a text is.
+pub(crate) fn refutation_of(alloc: Global, text: &[u8]) -> Result<Refutation, Refused>
+    ensures ok { IfOk result (IsRefutationRead text.now) }
+    ensures refused { IfErr result (RefusesRefutation text.now) }
+{
+    match read_refutation(alloc, text) {
+        Ok(refutation) => Ok(refutation),
         Err(error) => Err(unviewed_by(error)),
     }
 }

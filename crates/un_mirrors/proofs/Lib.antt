@@ -1,0 +1,9 @@
+pub mod Kept
+pub mod MirrorLemmas
+pub mod Moves
+pub mod NearestLemmas
+pub mod Neighbours
+pub mod StandFacts
+pub mod TreeEnds
+pub mod Trees
+pub mod WorkLemmas

@@ -1,0 +1,4 @@
+pub mod NodeLaws
+pub mod OptionLaws
+pub mod RefutationLaws
+pub mod RefutationPins

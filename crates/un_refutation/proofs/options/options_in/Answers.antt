@@ -1,0 +1,16 @@
+use Rattle.un_tree.proofs.Cuts.{if_none}
+use Rattle.un_refutation.proofs.OptionLaws.{no_word, no_regs_word, no_slots}
+use Rattle.un_refutation.proofs.options.options_in.Goals as goal
+
+pub returns-in_err-word-clause-none : goal.returns-in_err-word-clause-none
+returns-in_err-word-clause-none c = if_none c.from_residual.result (no_word c.args.text.now c.in_err-word.ensures.none)
+
+pub returns-in_err-regs-clause-none : goal.returns-in_err-regs-clause-none
+returns-in_err-regs-clause-none c =
+    if_none c.from_residual-in_err-regs.result
+    (no_regs_word c.args.text.now c.in_ok-word.word.now c.in_ok-word.rest.now c.in_ok-word.ensures.some c.in_err-regs.ensures.none)
+
+pub returns-in_err-slots-clause-none : goal.returns-in_err-slots-clause-none
+returns-in_err-slots-clause-none c =
+    if_none c.from_residual-in_err-slots.result
+    (no_slots c.args.text.now c.in_ok-word.word.now c.in_ok-word.rest.now c.in_ok-word.ensures.some c.in_err-slots.ensures.none)

@@ -1,0 +1,3 @@
+pub mod FirstBad
+pub mod Readings
+pub mod Refutations

@@ -1,0 +1,2 @@
+pub mod SymVerdicts
+pub mod SymWalks

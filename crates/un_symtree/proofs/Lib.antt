@@ -1,0 +1,2 @@
+pub mod SymLines
+pub mod SymTrees
