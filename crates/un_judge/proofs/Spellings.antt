@@ -1,5 +1,6 @@
 -- Lines of step logs: each step has its own.
-use Rattle.std.proofs.Common.{◌≡◌, ◌≢◌, ℕ, ◌<◌, ◌≤◌, ◌^◌, List, [], ◌∷◌, ◌++◌, All, Some, length, get_or, false, refl, sym, ap, ◌∙◌, decimal, arith}
+use Rattle.std.proofs.Common.{◌≡◌, ◌≢◌, ℕ, ◌<◌, ◌≤◌, ◌^◌, List, [], ◌∷◌, ◌++◌, All, Some, length, get_or, false}
+use Rattle.std.proofs.Common.{refl, sym, ap, ◌∙◌, decimal, arith}
 use Rattle.std.specs.Prelude.{slice_get}
 use Rattle.std.specs.Bool.{◌==◌}
 use Rattle.std.specs.List.{AllByRecursion}
@@ -23,8 +24,8 @@ use Rattle.un_judge.specs.declared.line.Line.TheVariants.{Other}
 
 abbrev rules_in_order : List Rule
 rules_in_order =
-    TooSoon ∷ TooSoon ∷ Idle ∷ OutsideBlock ∷ FromIdle ∷ TooLateFor ∷ OutsideSpace ∷ NoSpace ∷ Alike ∷ NotHome ∷ NotCongruent ∷ TooDear ∷ NoFrame
-    ∷ []
+    TooSoon ∷ TooSoon ∷ Idle ∷ OutsideBlock ∷ FromIdle ∷ TooLateFor ∷ OutsideSpace ∷ NoSpace ∷ Alike ∷ NotHome ∷ NotCongruent ∷ TooDear
+    ∷ NoFrame ∷ []
 
 at_number : (r : Rule) → slice_get rules_in_order (rule_number r) ≡ Some r
 at_number TooSoon = refl
@@ -136,7 +137,8 @@ NoStep rules text = (s : Step) → Fits rules s → text ≢ step_text s
 
 -- behind the number of a rule
 module _ (rules : ℕ) (text : List ℕ) (n : ℕ) (t : List ℕ) (small : n < 2 ^ 32) (is : text ≡ numbered n t) where
-  first_of : (s : Step) → text ≡ step_text s → (n ≡ rule_number s.rule) × (t ≡ numbered s.place (numbered s.var.0 (numbered s.first (decimal s.last))))
+  first_of : (s : Step) → text ≡ step_text s
+      → (n ≡ rule_number s.rule) × (t ≡ numbered s.place (numbered s.var.0 (numbered s.first (decimal s.last))))
   first_of s e = read_once text n (rule_number s.rule) t _ small (rule_small s.rule) is e
 
   pub no_rule : ((r : Rule) → rule_number r ≤ rules → n ≢ rule_number r) → NoStep rules text
@@ -210,5 +212,7 @@ begins_fed rules text line rest says cut said =
       bytes = line ++ 10 ∷ [];
       pieces = ap pieces_of w ∙ pieces_of-line line rest cut.none;
       says = said;
-      shorter = let h = shorter_rest line rest in let same : length text ≡ length (line ++ 10 ∷ rest) = ap length w in omega (arith, h, same);
+      shorter =
+          let h = shorter_rest line rest in
+          let same : length text ≡ length (line ++ 10 ∷ rest) = ap length w in omega (arith, h, same);
     }

@@ -1,5 +1,6 @@
 -- What is left of a box from which values are taken one by one.
-use Rattle.std.proofs.Common.{ℕ, zero, suc, ◌≡◌, ◌≢◌, ◌+◌, ◌<◌, ◌≤◌, Bool, true, false, ◌&&◌, not, List, [], ◌∷◌, length, filter, min, nat_eq, nat_lt}
+use Rattle.std.proofs.Common.{ℕ, zero, suc, ◌≡◌, ◌≢◌, ◌+◌, ◌<◌, ◌≤◌, Bool, true, false, ◌&&◌, not, List, [], ◌∷◌, length, filter, min}
+use Rattle.std.proofs.Common.{nat_eq, nat_lt}
 use Rattle.std.proofs.Common.{refl, sym, ap, ◌∙◌, arith, ◌⊎◌, inl, inr}
 use Rattle.std.specs.Prelude.{nat_le, slice_index, slice_set}
 use Rattle.std.proofs.lemmas.Bool.{cases_lt}
@@ -113,7 +114,8 @@ taken_all s step end last y above least past far =
     kept_agree (λ (k : ℕ). not (is_passed step.first y k)) (λ (k : ℕ). not (is_taken step k)) s step.var.0
     (λ k h. by k (above k h) (cases_lt k step.first) (cases_lt k y))
   where
-    by : (k : ℕ) → k < end → (k < step.first) ⊎ (step.first ≤ k) → (k < y) ⊎ (y ≤ k) → not (is_passed step.first y k) ≡ not (is_taken step k)
+    by : (k : ℕ) → k < end → (k < step.first) ⊎ (step.first ≤ k) → (k < y) ⊎ (y ≤ k)
+        → not (is_passed step.first y k) ≡ not (is_taken step k)
     by k lt (inl before) at = let e : nat_le step.first k ≡ false = grind (arith, nat_tests, before) in rw e refl
     by k lt (inr from) (inl within) =
         let few = far (omega (arith, from, within)) in

@@ -1,5 +1,6 @@
 -- The judging of a log, node after node.
-use Rattle.std.proofs.Common.{ℕ, zero, suc, ◌≡◌, ◌+◌, ◌<◌, ◌≤◌, Bool, true, false, List, [], ◌∷◌, ◌++◌, All, IfSome, MatchOption, None, Some}
+use Rattle.std.proofs.Common.{ℕ, zero, suc, ◌≡◌, ◌+◌, ◌<◌, ◌≤◌, Bool, true, false, List, [], ◌∷◌, ◌++◌, All, IfSome, None, Some}
+use Rattle.std.proofs.Common.{MatchOption}
 use Rattle.std.proofs.Common.{length, length-append, drop, get_or, add-one, refl, sym, ap, subst, ◌∙◌, arith}
 use Rattle.std.specs.Prelude.{Option, if◌then◌else◌}
 use Rattle.std.proofs.Math.Seq.{drop-cons}
@@ -123,7 +124,8 @@ module _ (r : Rules) (nodes : List Node) (log : List ℕ) (n : Node) (rest : Lis
     pub strict_here : IsStrictIn n (Whole old.stand.cuts.sets)
     strict_here = subst (λ (b : Sets). IsStrictIn n (Whole b)) (sym box_is) strict_both.0
 
-    comes_here : (verdict : StepVerdict) → LeftComes r old.left (closed_by n (Whole old.stand.cuts.sets) ++ flat_map closed_box visits_behind) verdict
+    comes_here : (verdict : StepVerdict)
+        → LeftComes r old.left (closed_by n (Whole old.stand.cuts.sets) ++ flat_map closed_box visits_behind) verdict
         → IsJudged r.rules r.m.now r.limit nodes log verdict
     comes_here verdict c =
         h.comes verdict (subst (λ (vs : List Visit). LeftComes r old.left (flat_map closed_box vs) verdict) (sym here)
@@ -216,7 +218,8 @@ walk_first r nodes log w at path more text read whole strict =
 some_left : (r : Rules) (n b : ℕ) (bs : List ℕ) → Comes r.rules r.m.now r.limit n [] (pieces_of (b ∷ bs)) Short
 some_left r n b bs = by (is_line_feed b) (pieces_of bs)
   where
-    by : (v : Bool) (pieces : List (List ℕ)) → Comes r.rules r.m.now r.limit n [] (if v then (b ∷ []) ∷ pieces else onto_first b pieces) Short
+    by : (v : Bool) (pieces : List (List ℕ))
+        → Comes r.rules r.m.now r.limit n [] (if v then (b ∷ []) ∷ pieces else onto_first b pieces) Short
     by true pieces = refl
     by false [] = refl
     by false (piece ∷ pieces) = refl

@@ -1,8 +1,12 @@
 //! The judge: a step log, leaf after leaf of a tree.
 
 ghost use Rattle.std.specs.Prelude.{◌≡◌, ◌∷◌, ℕ, List, All, MatchOption, OnOk, IfOk};
+ghost use Rattle.un_isa.specs.Fit.{IsFit};
+ghost use Rattle.un_ir.specs.Extended.{IsExtended};
 ghost use Rattle.un_domains.specs.Sets.{Sets};
 ghost use Rattle.un_model.specs.Boxes.{IsBelow, root_of};
+ghost use Rattle.un_model.specs.Options.{AreOptions};
+ghost use Rattle.un_model.specs.Variables.{IsModel};
 ghost use Rattle.un_tree.specs.Covered.{Stands};
 ghost use Rattle.un_tree.specs.Waits.{IsTreeOf, IsStrict, IsStrictIn, Whole, visits_of, after};
 ghost use Rattle.un_tree.specs.declared.node.Node.{Node};
@@ -143,7 +147,8 @@ fn judge_by(alloc: Global, r: &Rules<'_>, t: &Tree, log: &[u8]) -> Result<StepVe
     requires whole { IsTreeOf (root_of r.now.m.now) t.now.nodes.items }
     requires strict { All IsStrict (visits_of (root_of r.now.m.now) t.now.nodes.items) }
     ensures verdict { IfOk result (IsJudged r.now.rules r.now.m.now r.now.limit t.now.nodes.items log.now) }
-    ensures stands { IfOk result (OnYes (All (Stands (IsBelow r.now.m.now r.now.limit)) (visits_of (root_of r.now.m.now) t.now.nodes.items))) }
+    ensures stands { IfOk result (OnYes (All (Stands (IsBelow r.now.m.now r.now.limit))
+        (visits_of (root_of r.now.m.now) t.now.nodes.items))) }
 {
     let mut walk = begin(alloc, r, log)?;
     for node in &t.nodes {
@@ -167,7 +172,10 @@ pub fn judge(
     t: &Tree,
     log: &[u8],
 ) -> Result<StepVerdict, NoMemory>
-    requires ground { IsGround m.now }
+    requires model { IsModel m.now }
+    requires extended { IsExtended m.now.ext }
+    requires fit { IsFit m.now.ext.table }
+    requires options { AreOptions m.now.options }
     requires whole { IsTreeOf (root_of m.now) t.now.nodes.items }
     requires strict { All IsStrict (visits_of (root_of m.now) t.now.nodes.items) }
     ensures verdict { IfOk result (IsJudged RULES m.now limit t.now.nodes.items log.now) }

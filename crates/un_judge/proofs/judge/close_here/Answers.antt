@@ -8,7 +8,8 @@ pub mark-requires : goal.mark-requires
 mark-requires c = (cuts_box (root_of c.args.r.now.m.now) c.args.walk.now.stand c.requires.at).1
 
 pub undo-requires : goal.undo-requires
-undo-requires c = some_marked c.args.walk.now.stand.cuts.marked _ c.args.walk.now.stand.cuts.sets (c.close.ensures.marked ∙ c.in_ok-mark.ensures.ok)
+undo-requires c =
+    some_marked c.args.walk.now.stand.cuts.marked _ c.args.walk.now.stand.cuts.sets (c.close.ensures.marked ∙ c.in_ok-mark.ensures.ok)
 
 pub returns-in-Closed-clause-at : goal.returns-in-Closed-clause-at
 returns-in-Closed-clause-at c = stand_back (root_of c.args.r.now.m.now) c.args.walk.now.stand _ c.requires.at refl

@@ -26,8 +26,8 @@ pub visit-requires-clause-strict : goal.visit-requires-clause-strict
 visit-requires-clause-strict c =
     let nodes = c.args.t.now.nodes.items in
     let i = c.loop-node.node-index in
-    strict_here c.args.r.now nodes c.args.log.now (get_or c.deref-node-items.result.now i (Branch (record { 0 = 0 }) 0)) (drop (i + 1) nodes)
-    c.loop-node.walk
+    strict_here c.args.r.now nodes c.args.log.now (get_or c.deref-node-items.result.now i (Branch (record { 0 = 0 }) 0))
+    (drop (i + 1) nodes) c.loop-node.walk
     (next_walk c.args.r.now nodes c.args.log.now c.deref-node-items.result.now i (Branch (record { 0 = 0 }) 0) c.loop-node.walk
     c.deref-node-items.ensures.value c.loop-node-test.true c.loop-node.invariant)
 

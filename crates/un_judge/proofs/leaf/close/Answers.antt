@@ -14,8 +14,8 @@ returns-in-Ended-clause-comes c boxes verdict k =
     let h = c.in-Next.ensures in
     let d = c.in-Ended.ensures.does h.bytes h.says in
     c.loop-line.invariant.comes boxes verdict
-    (line_ends c.args.r.now c.loop-line.left c.in-Next.line c.in-Next.rest.now h c.in_ok-read-in-Next.read c.in_ok-read-in-Next.ensures.later
-    c.loop-line.cuts.sets d.0 boxes verdict k)
+    (line_ends c.args.r.now c.loop-line.left c.in-Next.line c.in-Next.rest.now h c.in_ok-read-in-Next.read
+    c.in_ok-read-in-Next.ensures.later c.loop-line.cuts.sets d.0 boxes verdict k)
 
 pub returns-in-Ended-clause-refuted : goal.returns-in-Ended-clause-refuted
 returns-in-Ended-clause-refuted c x inside below =
