@@ -41,7 +41,7 @@ static DRAWN: [&str; 5] = ["ack", "call", "gcd", "keep", "total"];
 /// How many bytes are written at most.
 const ROOM: usize = 65536;
 
-/// Whether a run over an outside writes a report that begins as expected.
+/// Whether a run over an outside writes a report that begins as expected, or the line that is expected on `err` and no report.
 fn writes(
     alloc: Global,
     words: &[Word],
@@ -51,7 +51,11 @@ fn writes(
     want: &[u8],
 ) -> bool {
     let _ = run(alloc, words, src, out, err);
-    !want.is_empty() && out.bytes().starts_with(want)
+    let report = out.bytes();
+    if report.is_empty() {
+        return err.bytes() == want;
+    }
+    !want.is_empty() && report.starts_with(want)
 }
 
 /// The same with sinks for it.
