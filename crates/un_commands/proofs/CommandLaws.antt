@@ -15,7 +15,7 @@ use Rattle.un_commands.specs.declared.command.TheConstants.{DEFAULT_NODES}
 use Rattle.un_commands.specs.declared.command.Command.{Command}
 use Rattle.un_commands.specs.declared.command.Command.TheVariants.{Reads, Makes}
 use Rattle.un_commands.specs.declared.command.ReadingCommand.TheVariants.{Alloc, Run, RunCode, Check, Improve, AllocTable, CheckTable, RunCodeTable}
-use Rattle.un_commands.specs.declared.command.ReadingCommand.TheVariants.{Refute, RefuteCheck}
+use Rattle.un_commands.specs.declared.command.ReadingCommand.TheVariants.{Refute, RefuteCheck, Steps, StepsCheck}
 use Rattle.un_commands.specs.declared.command.MakingCommand.TheVariants.{Generate, GenerateAlloc}
 use Rattle.un_commands.specs.declared.setting.Setting.{Setting}
 use Rattle.un_commands.specs.declared.setting.Setting.TheVariants.{Nodes, Regs, Slots}
@@ -25,11 +25,13 @@ use Rattle.un_commands.specs.Commands.{IsCommand, IsBadWord, IsRanged}
 use Rattle.un_commands.specs.Places.{StandsAt}
 use Rattle.un_commands.specs.Settings.{IsCountOfNodes, IsInRange, Part, part_words, settings_in, AsksTable, nodes_in, regs_in, slots_in, Say, over_defaults}
 use Rattle.un_commands.specs.Settings.Part.{Sets, Flag}
+use Rattle.un_commands.specs.Steps.{steps_words, steps_check_words}
 use Rattle.un_commands.proofs.AllocLaws.{line_of}
 use Rattle.un_commands.proofs.GenerateLaws.{plain, costed}
-use Rattle.un_commands.proofs.Openers.{alloc_of, opens_alloc, opens_run, plain as plain_run, coded, tabled, opens_check, opens_improve, opens_refute, asked, checked, opens_limit, opens_gen, read_at, first_words, IsGen, IsTail, ends, goes}
+use Rattle.un_commands.proofs.Openers.{alloc_of, opens_alloc, opens_run, plain as plain_run, coded, tabled, opens_check, opens_improve, opens_refute, asked, checked, opens_limit, opens_steps, logged, judged, opens_gen, read_at, first_words, IsGen, IsTail, ends, goes}
 use Rattle.un_commands.proofs.PartLaws.{begin_with, one_asking}
 use Rattle.un_commands.proofs.SettingLaws.{one_saying, all_values}
+use Rattle.un_commands.proofs.StepsLaws.{one_log, one_check_of_log, no_check_of_log}
 use Rattle.un_commands.proofs.Texts.{some_or_none, one_number, no_number}
 use Rattle.un_commands.proofs.WordLaws.{bad_word, command_is_good, bad_word_unique}
 
@@ -95,6 +97,8 @@ is_ranged words (Reads CheckTable) h = tt
 is_ranged words (Reads RunCodeTable) h = tt
 is_ranged words (Reads (Refute limit options)) h = (h.limit_fits, options_ranged (refute_opening limit) words false options h.settings)
 is_ranged words (Reads RefuteCheck) h = tt
+is_ranged words (Reads (Steps counts)) h = tt
+is_ranged words (Reads (StepsCheck counts)) h = tt
 is_ranged words (Makes (Generate seed size)) h = (h.seed_fits, h.size_in)
 is_ranged words (Makes (GenerateAlloc seed size nodes)) h = (h.seed_fits, h.size_in, h.nodes_in)
 
@@ -203,6 +207,14 @@ one_command words (Reads RefuteCheck) b h k = elim (opens_refute words b k (read
   | asked limit options e w ↦ absurd (no_number words 1 _ limit w.limit_fits (read_at words _ 1 h) (read_at words _ 1 w.settings.spelled))
   | checked e w ↦ sym e
 ]
+one_command words (Reads (Steps counts)) b h k = elim (opens_steps words b k (read_at words _ 0 h)) [
+  | logged other e w ↦ ap (λ (c : Bool). Reads (Steps c)) (one_log words counts other h w) ∙ sym e
+  | judged other e w ↦ absurd (no_check_of_log words counts other h w)
+]
+one_command words (Reads (StepsCheck counts)) b h k = elim (opens_steps words b k (read_at words _ 0 h)) [
+  | logged other e w ↦ absurd (no_check_of_log words other counts w h)
+  | judged other e w ↦ ap (λ (c : Bool). Reads (StepsCheck c)) (one_check_of_log words counts other h w) ∙ sym e
+]
 one_command words (Makes (Generate seed size)) b h k = one_gen words (Makes (Generate seed size)) b
     (opens_gen words (Makes (Generate seed size)) h (read_at words _ 0 h.spelled)) (opens_gen words b k (read_at words _ 0 h.spelled))
 one_command words (Makes (GenerateAlloc seed size nodes)) b h k = one_gen words (Makes (GenerateAlloc seed size nodes)) b
@@ -280,6 +292,8 @@ words_for (Reads (Refute limit options)) h = (
   refuted limit options h.0 h.1,
 )
 words_for (Reads RefuteCheck) h = (codes "refute" ∷ codes "--check" ∷ [], refl)
+words_for (Reads (Steps counts)) h = (steps_words counts, refl)
+words_for (Reads (StepsCheck counts)) h = (steps_check_words counts, refl)
 words_for (Makes (Generate seed size)) h = (codes "gen" ∷ decimal seed ∷ decimal size ∷ [], plain seed size h.0 h.1)
 words_for (Makes (GenerateAlloc seed size nodes)) h = (
   codes "gen" ∷ decimal seed ∷ decimal size ∷ codes "--nodes" ∷ decimal nodes ∷ [],
@@ -289,15 +303,16 @@ words_for (Makes (GenerateAlloc seed size nodes)) h = (
 -- no command begins with another first word
 pub bad_first : (words : List (List ℕ)) → ¬ StandsAt words 0 (codes "alloc") → ¬ StandsAt words 0 (codes "run")
     → ¬ StandsAt words 0 (codes "check") → ¬ StandsAt words 0 (codes "gen") → ¬ StandsAt words 0 (codes "improve")
-    → ¬ StandsAt words 0 (codes "refute") → IsBadWord words 0
-bad_first words alloc run check gen improve refute = bad_word words 0 (Reads Run) (codes "run" ∷ []) refl refl
+    → ¬ StandsAt words 0 (codes "refute") → ¬ StandsAt words 0 (codes "steps") → IsBadWord words 0
+bad_first words alloc run check gen improve refute steps = bad_word words 0 (Reads Run) (codes "run" ∷ []) refl refl
     (λ other others is alike. elim (first_words others other is) [
       | inl e ↦ alloc (alike 0 (omega arith) ∙ e)
       | inr (inl e) ↦ run (alike 0 (omega arith) ∙ e)
       | inr (inr (inl e)) ↦ check (alike 0 (omega arith) ∙ e)
       | inr (inr (inr (inl e))) ↦ gen (alike 0 (omega arith) ∙ e)
       | inr (inr (inr (inr (inl e)))) ↦ improve (alike 0 (omega arith) ∙ e)
-      | inr (inr (inr (inr (inr e)))) ↦ refute (alike 0 (omega arith) ∙ e)
+      | inr (inr (inr (inr (inr (inl e))))) ↦ refute (alike 0 (omega arith) ∙ e)
+      | inr (inr (inr (inr (inr (inr e))))) ↦ steps (alike 0 (omega arith) ∙ e)
     ])
 
 -- an answer that is a command of the words, or the place of their first bad one

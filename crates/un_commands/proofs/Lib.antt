@@ -10,5 +10,6 @@ pub mod RefuteLaws
 pub mod Rows
 pub mod RunLaws
 pub mod SettingLaws
+pub mod StepsLaws
 pub mod Texts
 pub mod WordLaws

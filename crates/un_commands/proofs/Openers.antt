@@ -7,13 +7,14 @@ use Rattle.un_commands.specs.declared.command.SearchOptions.{SearchOptions}
 use Rattle.un_commands.specs.declared.command.Command.{Command}
 use Rattle.un_commands.specs.declared.command.Command.TheVariants.{Reads, Makes}
 use Rattle.un_commands.specs.declared.command.ReadingCommand.TheVariants.{Alloc, Run, RunCode, Check, Improve, AllocTable, CheckTable, RunCodeTable}
-use Rattle.un_commands.specs.declared.command.ReadingCommand.TheVariants.{Refute, RefuteCheck}
+use Rattle.un_commands.specs.declared.command.ReadingCommand.TheVariants.{Refute, RefuteCheck, Steps, StepsCheck}
 use Rattle.un_commands.specs.declared.command.MakingCommand.TheVariants.{Generate, GenerateAlloc}
 use Rattle.un_commands.specs.Alloc.{alloc_opening, improve_opening, refute_opening, IsOpening, IsImprove, IsRefute, HasSettings}
 use Rattle.un_commands.specs.Commands.{IsCommand}
 use Rattle.un_commands.specs.Generate.{IsSize}
 use Rattle.un_commands.specs.Places.{StandsAt}
 use Rattle.un_commands.specs.Settings.{IsCountOfNodes}
+use Rattle.un_commands.specs.Steps.{steps_words, steps_check_words}
 use Rattle.un_commands.proofs.Firsts.{take_push}
 use Rattle.un_commands.proofs.RunLaws.{begins_two}
 use Rattle.un_commands.proofs.Texts.{other_first, other_second, one_number, no_number}
@@ -39,6 +40,8 @@ opens_alloc words (Reads RunCodeTable) h first = absurd (other_first 114 97 _ _ 
 opens_alloc words (Reads (Refute limit options)) h first =
     absurd (other_first 114 97 _ _ _ words (λ e. omega arith) h.settings.spelled first)
 opens_alloc words (Reads RefuteCheck) h first = absurd (other_first 114 97 _ _ _ words (λ e. omega arith) h first)
+opens_alloc words (Reads (Steps counts)) h first = absurd (other_first 115 97 _ _ _ words (λ e. omega arith) h first)
+opens_alloc words (Reads (StepsCheck counts)) h first = absurd (other_first 115 97 _ _ _ words (λ e. omega arith) h first)
 opens_alloc words (Makes (Generate seed size)) h first = absurd (other_first 103 97 _ _ _ words (λ e. omega arith) h.spelled first)
 opens_alloc words (Makes (GenerateAlloc seed size nodes)) h first =
     absurd (other_first 103 97 _ _ _ words (λ e. omega arith) h.spelled first)
@@ -62,6 +65,8 @@ opens_run words (Reads RunCodeTable) h first = tabled refl h
 opens_run words (Reads (Refute limit options)) h first =
     absurd (other_second 101 117 114 114 _ _ _ words (λ e. omega arith) h.settings.spelled first)
 opens_run words (Reads RefuteCheck) h first = absurd (other_second 101 117 114 114 _ _ _ words (λ e. omega arith) h first)
+opens_run words (Reads (Steps counts)) h first = absurd (other_first 115 114 _ _ _ words (λ e. omega arith) h first)
+opens_run words (Reads (StepsCheck counts)) h first = absurd (other_first 115 114 _ _ _ words (λ e. omega arith) h first)
 opens_run words (Makes (Generate seed size)) h first = absurd (other_first 103 114 _ _ _ words (λ e. omega arith) h.spelled first)
 opens_run words (Makes (GenerateAlloc seed size nodes)) h first =
     absurd (other_first 103 114 _ _ _ words (λ e. omega arith) h.spelled first)
@@ -80,6 +85,8 @@ opens_check words (Reads RunCodeTable) h first = absurd (other_first 114 99 _ _ 
 opens_check words (Reads (Refute limit options)) h first =
     absurd (other_first 114 99 _ _ _ words (λ e. omega arith) h.settings.spelled first)
 opens_check words (Reads RefuteCheck) h first = absurd (other_first 114 99 _ _ _ words (λ e. omega arith) h first)
+opens_check words (Reads (Steps counts)) h first = absurd (other_first 115 99 _ _ _ words (λ e. omega arith) h first)
+opens_check words (Reads (StepsCheck counts)) h first = absurd (other_first 115 99 _ _ _ words (λ e. omega arith) h first)
 opens_check words (Makes (Generate seed size)) h first = absurd (other_first 103 99 _ _ _ words (λ e. omega arith) h.spelled first)
 opens_check words (Makes (GenerateAlloc seed size nodes)) h first =
     absurd (other_first 103 99 _ _ _ words (λ e. omega arith) h.spelled first)
@@ -97,6 +104,8 @@ opens_improve words (Reads RunCodeTable) h first = absurd (other_first 114 105 _
 opens_improve words (Reads (Refute limit options)) h first =
     absurd (other_first 114 105 _ _ _ words (λ e. omega arith) h.settings.spelled first)
 opens_improve words (Reads RefuteCheck) h first = absurd (other_first 114 105 _ _ _ words (λ e. omega arith) h first)
+opens_improve words (Reads (Steps counts)) h first = absurd (other_first 115 105 _ _ _ words (λ e. omega arith) h first)
+opens_improve words (Reads (StepsCheck counts)) h first = absurd (other_first 115 105 _ _ _ words (λ e. omega arith) h first)
 opens_improve words (Makes (Generate seed size)) h first = absurd (other_first 103 105 _ _ _ words (λ e. omega arith) h.spelled first)
 opens_improve words (Makes (GenerateAlloc seed size nodes)) h first =
     absurd (other_first 103 105 _ _ _ words (λ e. omega arith) h.spelled first)
@@ -119,6 +128,8 @@ opens_refute words (Reads CheckTable) h first = absurd (other_first 99 114 _ _ _
 opens_refute words (Reads RunCodeTable) h first = absurd (other_second 117 101 114 114 _ _ _ words (λ e. omega arith) h first)
 opens_refute words (Reads (Refute limit options)) h first = asked limit options refl h
 opens_refute words (Reads RefuteCheck) h first = checked refl h
+opens_refute words (Reads (Steps counts)) h first = absurd (other_first 115 114 _ _ _ words (λ e. omega arith) h first)
+opens_refute words (Reads (StepsCheck counts)) h first = absurd (other_first 115 114 _ _ _ words (λ e. omega arith) h first)
 opens_refute words (Makes (Generate seed size)) h first = absurd (other_first 103 114 _ _ _ words (λ e. omega arith) h.spelled first)
 opens_refute words (Makes (GenerateAlloc seed size nodes)) h first =
     absurd (other_first 103 114 _ _ _ words (λ e. omega arith) h.spelled first)
@@ -262,6 +273,29 @@ opens_search opening takes (inr (inr e)) words command h opens =
       has = subst (λ (ws : List (List ℕ)). HasSettings ws words false opened.0) (sym e.2) opened.2;
     }
 
+-- the command of `steps`, with the flag `--check` or without
+pub data IsStepping (words : List (List ℕ)) (command : Command) : Type 0 where
+  logged : (counts : Bool) → command ≡ Reads (Steps counts) → words ≡ steps_words counts → IsStepping words command
+  judged : (counts : Bool) → command ≡ Reads (StepsCheck counts) → words ≡ steps_check_words counts → IsStepping words command
+
+pub opens_steps : (words : List (List ℕ)) (command : Command) → IsCommand words command → slice_get words 0 ≡ Some (codes "steps")
+    → IsStepping words command
+opens_steps words (Reads (Alloc options)) h first = absurd (other_first 97 115 _ _ _ words (λ e. omega arith) h.spelled first)
+opens_steps words (Reads Run) h first = absurd (other_first 114 115 _ _ _ words (λ e. omega arith) h first)
+opens_steps words (Reads RunCode) h first = absurd (other_first 114 115 _ _ _ words (λ e. omega arith) h first)
+opens_steps words (Reads Check) h first = absurd (other_first 99 115 _ _ _ words (λ e. omega arith) h first)
+opens_steps words (Reads (Improve options)) h first = absurd (other_first 105 115 _ _ _ words (λ e. omega arith) h.spelled first)
+opens_steps words (Reads (AllocTable options)) h first = absurd (other_first 97 115 _ _ _ words (λ e. omega arith) h.spelled first)
+opens_steps words (Reads CheckTable) h first = absurd (other_first 99 115 _ _ _ words (λ e. omega arith) h first)
+opens_steps words (Reads RunCodeTable) h first = absurd (other_first 114 115 _ _ _ words (λ e. omega arith) h first)
+opens_steps words (Reads (Refute limit options)) h first = absurd (other_first 114 115 _ _ _ words (λ e. omega arith) h.settings.spelled first)
+opens_steps words (Reads RefuteCheck) h first = absurd (other_first 114 115 _ _ _ words (λ e. omega arith) h first)
+opens_steps words (Reads (Steps counts)) h first = logged counts refl h
+opens_steps words (Reads (StepsCheck counts)) h first = judged counts refl h
+opens_steps words (Makes (Generate seed size)) h first = absurd (other_first 103 115 _ _ _ words (λ e. omega arith) h.spelled first)
+opens_steps words (Makes (GenerateAlloc seed size nodes)) h first =
+    absurd (other_first 103 115 _ _ _ words (λ e. omega arith) h.spelled first)
+
 -- what stands behind a size: nothing, or a number of nodes
 pub data IsTail (words : List (List ℕ)) (command : Command) (seed size : ℕ) : Type 0 where
   ends : command ≡ Makes (Generate seed size) → slice_get words 3 ≡ None → IsTail words command seed size
@@ -291,6 +325,8 @@ opens_gen words (Reads RunCodeTable) h first = absurd (other_first 114 103 _ _ _
 opens_gen words (Reads (Refute limit options)) h first =
     absurd (other_first 114 103 _ _ _ words (λ e. omega arith) h.settings.spelled first)
 opens_gen words (Reads RefuteCheck) h first = absurd (other_first 114 103 _ _ _ words (λ e. omega arith) h first)
+opens_gen words (Reads (Steps counts)) h first = absurd (other_first 115 103 _ _ _ words (λ e. omega arith) h first)
+opens_gen words (Reads (StepsCheck counts)) h first = absurd (other_first 115 103 _ _ _ words (λ e. omega arith) h first)
 opens_gen words (Makes (Generate seed size)) h first = record {
   seed = seed;
   size = size;
@@ -313,7 +349,7 @@ opens_gen words (Makes (GenerateAlloc seed size nodes)) h first = record {
 pub first_words : (words : List (List ℕ)) (command : Command) → IsCommand words command
     → StandsAt words 0 (codes "alloc")
     ⊎ (StandsAt words 0 (codes "run") ⊎ (StandsAt words 0 (codes "check") ⊎ (StandsAt words 0 (codes "gen")
-    ⊎ (StandsAt words 0 (codes "improve") ⊎ StandsAt words 0 (codes "refute")))))
+    ⊎ (StandsAt words 0 (codes "improve") ⊎ (StandsAt words 0 (codes "refute") ⊎ StandsAt words 0 (codes "steps"))))))
 first_words words (Reads (Alloc options)) h = inl (read_at words _ 0 h.spelled)
 first_words words (Reads Run) h = inr (inl (read_at words _ 0 h))
 first_words words (Reads RunCode) h = inr (inl (read_at words _ 0 h))
@@ -322,7 +358,9 @@ first_words words (Reads (Improve options)) h = inr (inr (inr (inr (inl (read_at
 first_words words (Reads (AllocTable options)) h = inl (read_at words _ 0 h.spelled)
 first_words words (Reads CheckTable) h = inr (inr (inl (read_at words _ 0 h)))
 first_words words (Reads RunCodeTable) h = inr (inl (read_at words _ 0 h))
-first_words words (Reads (Refute limit options)) h = inr (inr (inr (inr (inr (read_at words _ 0 h.settings.spelled)))))
-first_words words (Reads RefuteCheck) h = inr (inr (inr (inr (inr (read_at words _ 0 h)))))
+first_words words (Reads (Refute limit options)) h = inr (inr (inr (inr (inr (inl (read_at words _ 0 h.settings.spelled))))))
+first_words words (Reads RefuteCheck) h = inr (inr (inr (inr (inr (inl (read_at words _ 0 h))))))
+first_words words (Reads (Steps counts)) h = inr (inr (inr (inr (inr (inr (read_at words _ 0 h))))))
+first_words words (Reads (StepsCheck counts)) h = inr (inr (inr (inr (inr (inr (read_at words _ 0 h))))))
 first_words words (Makes (Generate seed size)) h = inr (inr (inr (inl (read_at words _ 0 h.spelled))))
 first_words words (Makes (GenerateAlloc seed size nodes)) h = inr (inr (inr (inl (read_at words _ 0 h.spelled))))

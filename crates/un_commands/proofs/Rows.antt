@@ -4,7 +4,7 @@ use Rattle.std.specs.Fmt.{decimal}
 use Rattle.std.proofs.lemmas.Bool.{eqb-false, true≢false}
 use Rattle.std.proofs.lemmas.Fmt.{decimal_digit, decimal_step, decimal_injective}
 use Rattle.un_commands.specs.declared.command.Command.TheVariants.{Reads}
-use Rattle.un_commands.specs.declared.command.ReadingCommand.TheVariants.{Alloc, RunCode, Check, Improve, AllocTable, CheckTable, RunCodeTable, Refute, RefuteCheck}
+use Rattle.un_commands.specs.declared.command.ReadingCommand.TheVariants.{Alloc, RunCode, Check, Improve, AllocTable, CheckTable, RunCodeTable, Refute, RefuteCheck, Steps, StepsCheck}
 use Rattle.un_commands.specs.declared.setting.Setting.{Setting}
 use Rattle.un_commands.specs.declared.setting.Setting.TheVariants.{Nodes, Regs, Slots}
 use Rattle.un_commands.specs.Alloc.{alloc_opening, improve_opening, refute_opening}
@@ -16,6 +16,7 @@ use Rattle.un_commands.proofs.CommandLaws.{bad_first}
 use Rattle.un_commands.proofs.GenerateLaws.{bad_size, bad_nodes}
 use Rattle.un_commands.proofs.Openers.{opens_run, plain, coded, tabled, opens_check, read_at}
 use Rattle.un_commands.proofs.RefuteLaws.{bad_limit, bad_refute_end}
+use Rattle.un_commands.proofs.StepsLaws.{bad_log, bad_check_of_log}
 use Rattle.un_commands.proofs.Texts.{no_number}
 use Rattle.un_commands.proofs.WordLaws.{bad_word}
 
@@ -34,7 +35,7 @@ other_number word m n is small_m small_n e = let same : decimal m ≡ decimal n 
 
 -- no words at all
 nothing : IsBadWord [] 0
-nothing = bad_first [] (λ e. no _ e) (λ e. no _ e) (λ e. no _ e) (λ e. no _ e) (λ e. no _ e) (λ e. no _ e)
+nothing = bad_first [] (λ e. no _ e) (λ e. no _ e) (λ e. no _ e) (λ e. no _ e) (λ e. no _ e) (λ e. no _ e) (λ e. no _ e)
   where
     no : (w : List ℕ) → None ≡ Some w → ⊥
     no w e = cc
@@ -246,3 +247,35 @@ check_refutation = refl
 -- `refute --check y`
 word_behind_refute_check : IsBadWord (codes "refute" ∷ codes "--check" ∷ codes "y" ∷ []) 2
 word_behind_refute_check = bad_refute_end (codes "refute" ∷ codes "--check" ∷ codes "y" ∷ []) refl refl (lit< tt)
+
+-- `steps`
+log : IsCommand (codes "steps" ∷ []) (Reads (Steps false))
+log = refl
+
+-- `steps --counts`
+log_with_counts : IsCommand (codes "steps" ∷ codes "--counts" ∷ []) (Reads (Steps true))
+log_with_counts = refl
+
+-- `steps --check`
+check_log : IsCommand (codes "steps" ∷ codes "--check" ∷ []) (Reads (StepsCheck false))
+check_log = refl
+
+-- `steps --check --counts`
+check_log_with_counts : IsCommand (codes "steps" ∷ codes "--check" ∷ codes "--counts" ∷ []) (Reads (StepsCheck true))
+check_log_with_counts = refl
+
+-- `steps --counts --check`
+abbrev counts_before_check : List (List ℕ)
+counts_before_check = codes "steps" ∷ codes "--counts" ∷ codes "--check" ∷ []
+
+check_is_first : IsBadWord counts_before_check 2
+check_is_first = bad_log counts_before_check 2 refl (λ e. eqb-false 111 104 refl (fourth (codes "--counts") (codes "--check") e))
+    (inr (refl, lit< tt, refl))
+  where
+    fourth : (v w : List ℕ) → Some v ≡ Some w → get_or v 3 0 ≡ get_or w 3 0
+    fourth v w e = let same : v ≡ w = cc in ap (λ (x : List ℕ). get_or x 3 0) same
+
+-- `steps --check --counts --counts`
+counts_twice : IsBadWord (codes "steps" ∷ codes "--check" ∷ codes "--counts" ∷ codes "--counts" ∷ []) 3
+counts_twice = bad_check_of_log (codes "steps" ∷ codes "--check" ∷ codes "--counts" ∷ codes "--counts" ∷ []) 3 refl refl
+    (inr (refl, lit< tt, refl))

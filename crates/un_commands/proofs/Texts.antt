@@ -19,6 +19,11 @@ other_second a b x y v w rest words ne is first =
     let here : slice_get words 0 ≡ Some (x ∷ a ∷ v) = ap (λ (ws : List (List ℕ)). slice_get ws 0) is in
     let same : a ≡ b = cc in ne same
 
+-- no two words whose fourth bytes differ stand at one place
+pub other_fourth : (words : List (List ℕ)) (place a b x y z : ℕ) (v w : List ℕ) → a ≢ b
+    → slice_get words place ≡ Some (x ∷ y ∷ z ∷ a ∷ v) → slice_get words place ≡ Some (x ∷ y ∷ z ∷ b ∷ w) → ⊥
+other_fourth words place a b x y z v w ne one other = let same : a ≡ b = cc in ne same
+
 -- a flag is no number, since that begins with a digit and no hyphen
 not_number : (w : List ℕ) (n : ℕ) → n < 2 ^ 64 → 45 ∷ w ≡ decimal n → ⊥
 not_number w n fits e =

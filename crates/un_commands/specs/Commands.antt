@@ -3,11 +3,12 @@ use Rattle.std.specs.Prelude.{ℕ, ◌≡◌, ◌+◌, ◌<◌, ◌^◌, List, [
 use Rattle.un_commands.specs.declared.command.Command.{Command}
 use Rattle.un_commands.specs.declared.command.Command.TheVariants.{Reads, Makes}
 use Rattle.un_commands.specs.declared.command.ReadingCommand.TheVariants.{Alloc, Run, RunCode, Check, Improve, AllocTable, CheckTable, RunCodeTable}
-use Rattle.un_commands.specs.declared.command.ReadingCommand.TheVariants.{Refute, RefuteCheck}
+use Rattle.un_commands.specs.declared.command.ReadingCommand.TheVariants.{Refute, RefuteCheck, Steps, StepsCheck}
 use Rattle.un_commands.specs.declared.command.MakingCommand.TheVariants.{Generate, GenerateAlloc}
 use Rattle.un_commands.specs.Alloc.{IsAlloc, IsAllocTable, IsImprove, IsRefute, AreSearchOptions}
 use Rattle.un_commands.specs.Generate.{IsSize, IsGenerate, IsGenerateAlloc}
 use Rattle.un_commands.specs.Settings.{IsCountOfNodes}
+use Rattle.un_commands.specs.Steps.{steps_words, steps_check_words}
 
 -- the words of a line are those of a command
 abbrev pub IsCommand : List (List ℕ) → Command → Type 0
@@ -21,6 +22,8 @@ IsCommand words (Reads CheckTable) = words ≡ codes "check" ∷ codes "--table"
 IsCommand words (Reads RunCodeTable) = words ≡ codes "run" ∷ codes "--code" ∷ codes "--table" ∷ []
 IsCommand words (Reads (Refute limit options)) = IsRefute words limit options
 IsCommand words (Reads RefuteCheck) = words ≡ codes "refute" ∷ codes "--check" ∷ []
+IsCommand words (Reads (Steps counts)) = words ≡ steps_words counts
+IsCommand words (Reads (StepsCheck counts)) = words ≡ steps_check_words counts
 IsCommand words (Makes (Generate seed size)) = IsGenerate words seed size
 IsCommand words (Makes (GenerateAlloc seed size nodes)) = IsGenerateAlloc words seed size nodes
 
@@ -49,5 +52,7 @@ IsRanged (Reads CheckTable) = Unit {0}
 IsRanged (Reads RunCodeTable) = Unit {0}
 IsRanged (Reads (Refute limit options)) = (limit < 2 ^ 64) × AreSearchOptions options
 IsRanged (Reads RefuteCheck) = Unit {0}
+IsRanged (Reads (Steps counts)) = Unit {0}
+IsRanged (Reads (StepsCheck counts)) = Unit {0}
 IsRanged (Makes (Generate seed size)) = (seed < 2 ^ 64) × IsSize size
 IsRanged (Makes (GenerateAlloc seed size nodes)) = (seed < 2 ^ 64) × IsSize size × IsCountOfNodes nodes

@@ -3,3 +3,4 @@ pub mod Commands
 pub mod Generate
 pub mod Places
 pub mod Settings
+pub mod Steps

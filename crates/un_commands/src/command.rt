@@ -60,6 +60,11 @@ pub enum ReadingCommand {
     Refute { limit: u64, options: SearchOptions },
     /// Whether the refutation of a function is accepted.
     RefuteCheck,
+    /// The log of the steps that show each leaf of the tree of a function's report, where `counts` with the rule that counts what
+    /// cycles hold.
+    Steps { counts: bool },
+    /// Whether such a log is accepted, where `counts` with that rule.
+    StepsCheck { counts: bool },
 }
 
 /// What it may ask for without one.

@@ -11,3 +11,4 @@ mod place;
 mod refute;
 mod run;
 pub mod setting;
+mod steps;

@@ -9,6 +9,7 @@ use crate::command::Command;
 use crate::generate::read_generate;
 use crate::refute::read_refute;
 use crate::run::read_run;
+use crate::steps::read_steps;
 use un_outside::words::Word;
 
 /// The command that the words are, with its numbers in their ranges. It takes no memory.
@@ -37,6 +38,8 @@ pub fn read_command(words: &[Word]) -> Result<Command, u32>
         read_improve(words)
     } else if first.is(b"refute") {
         read_refute(words)
+    } else if first.is(b"steps") {
+        read_steps(words)
     } else {
         Err(0)
     }

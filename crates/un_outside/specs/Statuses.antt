@@ -2,7 +2,7 @@
 use Rattle.std.specs.Prelude.{ℕ}
 use Rattle.un_outside.specs.declared.status.Status.{Status}
 use Rattle.un_outside.specs.declared.status.Status.TheVariants.{Done, Infeasible, Spent, TextFault, Usage, ReadFault, WriteFault, NoMemory, No}
-use Rattle.un_outside.specs.declared.status.Status.TheVariants.{BadReport, Found, Cut, BadTable}
+use Rattle.un_outside.specs.declared.status.Status.TheVariants.{BadReport, Found, Cut, BadTable, NoLog, BadSteps}
 
 -- the exit status of the program
 abbrev pub number_of : Status → ℕ
@@ -19,3 +19,5 @@ number_of (BadReport line) = 9
 number_of (Found cost) = 10
 number_of Cut = 11
 number_of (BadTable code) = 12
+number_of (NoLog node) = 13
+number_of (BadSteps line) = 14

@@ -59,10 +59,15 @@ pub enum Status {
     Cut,
     /// The text of a table is refused, by the cause of this number, 1 to 5.
     BadTable { code: u8 },
+    /// The report's tree has a node, at this place, from 0, that no log is found for.
+    NoLog { node: u32 },
+    /// The log of steps is not accepted, at this line of it, from 1: that is no step which may stand there, or the log ends before it,
+    /// or goes on there.
+    BadSteps { line: u32 },
 }
 
 impl Status {
-    /// The exit status of the program: 0 to 12 in the order of the variants.
+    /// The exit status of the program: 0 to 14 in the order of the variants.
     pub fn number(&self) -> u8
         ensures { result ≡ number_of self.now }
     {
@@ -80,6 +85,8 @@ impl Status {
             Status::Found { .. } => 10,
             Status::Cut => 11,
             Status::BadTable { .. } => 12,
+            Status::NoLog { .. } => 13,
+            Status::BadSteps { .. } => 14,
         }
     }
 }

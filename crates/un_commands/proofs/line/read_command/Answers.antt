@@ -33,15 +33,18 @@ returns-then-is-6-clause-exactly c = exactly c.args.words.now c.read_refute.resu
 pub returns-then-is-6-clause-ranged : goal.returns-then-is-6-clause-ranged
 returns-then-is-6-clause-ranged c = ranged c.args.words.now c.read_refute.result c.read_refute.ensures.ok
 
+pub returns-then-is-7-clause-exactly : goal.returns-then-is-7-clause-exactly
+returns-then-is-7-clause-exactly c = exactly c.args.words.now c.read_steps.result c.read_steps.ensures.ok c.read_steps.ensures.bad
+
 pub returns-in_default-clause-bad : goal.returns-in_default-clause-bad
 returns-in_default-clause-bad c =
     let words = c.args.words.now in
     let none : slice_get words 0 ≡ None = first_of (search rules, grind (arith, common_steps, gets)) in
     bad_at words (Err 0) (bad_first words (none_first words _ none) (none_first words _ none) (none_first words _ none) (none_first words _ none)
-    (none_first words _ none) (none_first words _ none))
+    (none_first words _ none) (none_first words _ none) (none_first words _ none))
 
-pub returns-else-is-6-clause-bad : goal.returns-else-is-6-clause-bad
-returns-else-is-6-clause-bad c =
+pub returns-else-is-7-clause-bad : goal.returns-else-is-7-clause-bad
+returns-else-is-7-clause-bad c =
     let words = c.args.words.now in
     let first = c.in-Some.first.now in
     let here : slice_get words 0 ≡ Some first = first_of (search rules, grind (arith, common_steps, gets)) in
@@ -50,4 +53,5 @@ returns-else-is-6-clause-bad c =
     (not_first words first _ _ here c.is-else-is-2.ensures c.if-is-3.false)
     (not_first words first _ _ here c.is-else-is-3.ensures c.if-is-4.false)
     (not_first words first _ _ here c.is-else-is-4.ensures c.if-is-5.false)
-    (not_first words first _ _ here c.is-else-is-5.ensures c.if-is-6.false))
+    (not_first words first _ _ here c.is-else-is-5.ensures c.if-is-6.false)
+    (not_first words first _ _ here c.is-else-is-6.ensures c.if-is-7.false))
