@@ -14,7 +14,7 @@ use Rattle.un_tree.proofs.NodeLines.{digits_apart}
 use Rattle.un_walk.proofs.Paths.{last_once}
 use Rattle.un_steps.specs.declared.step.Rule.{Rule}
 use Rattle.un_steps.specs.declared.step.Rule.TheVariants.{TooSoon, Idle, OutsideBlock, FromIdle, TooLateFor, OutsideSpace, NoSpace, Alike}
-use Rattle.un_steps.specs.declared.step.Rule.TheVariants.{NotHome, NotCongruent, TooDear, NoFrame}
+use Rattle.un_steps.specs.declared.step.Rule.TheVariants.{NotHome, NotCongruent, TooDear, NoFrame, TooFull}
 use Rattle.un_steps.specs.declared.step.Step.{Step}
 use Rattle.un_judge.specs.Lines.{rule_number, numbered, step_text, dot_line, Fits, IsStepLine, Says, BeginsWith}
 use Rattle.un_judge.specs.declared.line.Line.{Line}
@@ -25,7 +25,7 @@ use Rattle.un_judge.specs.declared.line.Line.TheVariants.{Other}
 abbrev rules_in_order : List Rule
 rules_in_order =
     TooSoon ∷ TooSoon ∷ Idle ∷ OutsideBlock ∷ FromIdle ∷ TooLateFor ∷ OutsideSpace ∷ NoSpace ∷ Alike ∷ NotHome ∷ NotCongruent ∷ TooDear
-    ∷ NoFrame ∷ []
+    ∷ NoFrame ∷ TooFull ∷ []
 
 at_number : (r : Rule) → slice_get rules_in_order (rule_number r) ≡ Some r
 at_number TooSoon = refl
@@ -40,6 +40,7 @@ at_number NotHome = refl
 at_number NotCongruent = refl
 at_number TooDear = refl
 at_number NoFrame = refl
+at_number TooFull = refl
 
 rule_once : (a b : Rule) → rule_number a ≡ rule_number b → a ≡ b
 rule_once a b e = let same : Some a ≡ Some b = sym (at_number a) ∙ (ap (slice_get rules_in_order) e ∙ at_number b) in cc same
@@ -58,6 +59,7 @@ rule_small NotHome = omega arith
 rule_small NotCongruent = omega arith
 rule_small TooDear = omega arith
 rule_small NoFrame = omega arith
+rule_small TooFull = omega arith
 
 -- ---- numbers and blanks
 

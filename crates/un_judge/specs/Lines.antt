@@ -3,7 +3,7 @@ use Rattle.std.specs.Prelude.{ℕ, ◌≡◌, ◌≢◌, ◌<◌, ◌≤◌, ◌
 use Rattle.un_base.specs.Lines.{pieces_of}
 use Rattle.un_steps.specs.declared.step.Rule.{Rule}
 use Rattle.un_steps.specs.declared.step.Rule.TheVariants.{TooSoon, Idle, OutsideBlock, FromIdle, TooLateFor, OutsideSpace, NoSpace, Alike}
-use Rattle.un_steps.specs.declared.step.Rule.TheVariants.{NotHome, NotCongruent, TooDear, NoFrame}
+use Rattle.un_steps.specs.declared.step.Rule.TheVariants.{NotHome, NotCongruent, TooDear, NoFrame, TooFull}
 use Rattle.un_steps.specs.declared.step.Step.{Step}
 use Rattle.un_judge.specs.declared.line.First.{First}
 use Rattle.un_judge.specs.declared.line.First.TheVariants.{End, Next}
@@ -25,6 +25,7 @@ rule_number NotHome = 9
 rule_number NotCongruent = 10
 rule_number TooDear = 11
 rule_number NoFrame = 12
+rule_number TooFull = 13
 
 -- a number, a blank, and what stands behind it
 abbrev pub numbered : ℕ → List ℕ → List ℕ

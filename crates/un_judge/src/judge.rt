@@ -29,9 +29,6 @@ use un_tree::node::{Node, Tree};
 use un_walk::branch::branch_of;
 use un_walk::stand::{Stand, first_stand, step};
 
-/// How many rules hold.
-pub const RULES: u32 = 12;
-
 /// How far the judging of a log has come.
 #[derive(Drop)]
 pub struct Walk<'a> {
@@ -160,8 +157,8 @@ fn judge_by(alloc: Global, r: &Rules<'_>, t: &Tree, log: &[u8]) -> Result<StepVe
     Ok(end_of(walk.left.text))
 }
 
-/// What a step log comes to for the closed leaves of a tree whose branches have both sides. Where the answer is `Yes`, no closed leaf
-/// holds a solution below the limit.
+/// What a step log comes to by the first so many rules, for the closed leaves of a tree whose branches have both sides. Where the answer
+/// is `Yes`, no closed leaf holds a solution below the limit. More rules than there are mean all.
 ///
 /// # Errors
 /// Where memory is short, or where there are more variables or lines than numbers below 2^32.
@@ -169,6 +166,7 @@ pub fn judge(
     alloc: Global,
     m: &Model,
     limit: Option<u64>,
+    rules: u32,
     t: &Tree,
     log: &[u8],
 ) -> Result<StepVerdict, NoMemory>
@@ -178,14 +176,10 @@ pub fn judge(
     requires options { AreOptions m.now.options }
     requires whole { IsTreeOf (root_of m.now) t.now.nodes.items }
     requires strict { All IsStrict (visits_of (root_of m.now) t.now.nodes.items) }
-    ensures verdict { IfOk result (IsJudged RULES m.now limit t.now.nodes.items log.now) }
+    ensures verdict { IfOk result (IsJudged rules m.now limit t.now.nodes.items log.now) }
     ensures stands { IfOk result (OnYes (All (Stands (IsBelow m.now limit)) (visits_of (root_of m.now) t.now.nodes.items))) }
 {
-    let rules = Rules {
-        rules: RULES,
-        m,
-        limit,
-    };
-    let verdict = judge_by(alloc, &rules, t, log)?;
+    let r = Rules { rules, m, limit };
+    let verdict = judge_by(alloc, &r, t, log)?;
     Ok(verdict)
 }

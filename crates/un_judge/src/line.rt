@@ -47,6 +47,7 @@ fn rule_of(number: u32) -> Option<Rule>
         10 => Some(Rule::NotCongruent),
         11 => Some(Rule::TooDear),
         12 => Some(Rule::NoFrame),
+        13 => Some(Rule::TooFull),
         _ => None,
     }
 }

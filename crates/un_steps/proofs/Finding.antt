@@ -29,6 +29,11 @@ pairs_length f i [] ys = omega arith
 pairs_length f i (x ∷ xs) [] = omega arith
 pairs_length f i (x ∷ xs) (y ∷ ys) = let r = pairs_length f (i + 1) xs ys in omega (arith, r)
 
+pub get_past : {X : Type 0} (xs : List X) (i : ℕ) → length xs ≤ i → slice_get xs i ≡ None
+get_past [] i le = refl
+get_past (x ∷ xs) zero le = absurd (omega (arith, le))
+get_past (x ∷ xs) (suc i) le = get_past xs i (omega (arith, le))
+
 get_left : {X : Type 0} (xs ys : List X) (i : ℕ) → i < length xs → slice_get (xs ++ ys) i ≡ slice_get xs i
 get_left [] ys i lt = absurd (omega (arith, lt))
 get_left (x ∷ xs) ys zero lt = refl

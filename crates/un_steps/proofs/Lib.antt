@@ -22,3 +22,7 @@ pub mod Looks
 pub mod Finding
 pub mod Picking
 pub mod CostSteps
+pub mod Filled
+pub mod TooFull
+pub mod Narrowing
+pub mod Shares

@@ -25,10 +25,10 @@ least_none (x ∷ xs) h = absurd (h x (let t : nat_eq x x ≡ true = grind (arit
 
 -- ---- the least
 
-has_first : (x : ℕ) (xs : List ℕ) → has (x ∷ xs) x ≡ true
+pub has_first : (x : ℕ) (xs : List ℕ) → has (x ∷ xs) x ≡ true
 has_first x xs = let t : nat_eq x x ≡ true = grind (arith, nat_tests) in rw t refl
 
-has_later : (x y : ℕ) (xs : List ℕ) → has xs y ≡ true → has (x ∷ xs) y ≡ true
+pub has_later : (x y : ℕ) (xs : List ℕ) → has xs y ≡ true → has (x ∷ xs) y ≡ true
 has_later x y xs h = by (nat_eq y x)
   where
     by : (b : Bool) → (b || has xs y) ≡ true
@@ -55,7 +55,7 @@ least_known (x ∷ xs) y h least =
     ap (λ (b : Bool). if b then None else Some (fold min x xs)) full ∙ ap (λ (n : ℕ). Some n)
     (fold_known x xs y (elim (has-cons x y xs h) [ inl e ↦ inl (sym e) | inr t ↦ inr t ]) lx (λ k t. least k (has_later x k xs t)))
 
-both : (a b : Bool) → (a && b) ≡ true → (a ≡ true) × (b ≡ true)
+pub both : (a b : Bool) → (a && b) ≡ true → (a ≡ true) × (b ≡ true)
 both true b h = (refl, h)
 both false b h = absurd (cc h)
 
@@ -65,7 +65,7 @@ parts xs y h =
     let p = t.0 in
     (grind (arith, nat_tests, p), t.1)
 
-less_or : (a b : ℕ) → (a < b) ⊎ (b ≤ a)
+pub less_or : (a b : ℕ) → (a < b) ⊎ (b ≤ a)
 less_or zero zero = inr (omega arith)
 less_or zero (suc b) = inl (omega arith)
 less_or (suc a) zero = inr (omega arith)

@@ -28,7 +28,7 @@ placed_operations b owner close i n first [] = refl
 placed_operations b owner close i n first (op ∷ ops) = ap (λ ps. operation b owner close i op (op_vars first op) ∷ ps)
     (placed_operations b owner close (i + 1) (n + 1) (first + var_count op) ops)
 
-operations_are : (b n first : ℕ) (blocks : List ExtBlock)
+pub operations_are : (b n first : ℕ) (blocks : List ExtBlock)
     → operations_from b blocks (blocks_vars first blocks) ≡ map operation_of (blocks_placed b n first blocks)
 operations_are b n first [] = refl
 operations_are b n first (block ∷ blocks) =

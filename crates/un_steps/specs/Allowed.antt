@@ -5,12 +5,12 @@ use Rattle.un_model.specs.declared.model.Arc.{Arc}
 use Rattle.un_model.specs.declared.model.Model.{Model}
 use Rattle.un_model.specs.declared.model.BlockVars.{BlockVars}
 use Rattle.un_model.specs.Pairs.{joined}
-use Rattle.un_steps.specs.Words.{Operation, operations_of, operation_at}
+use Rattle.un_steps.specs.Words.{Operation, operations_of, operations_in, operation_at}
 use Rattle.un_steps.specs.Rules.{IsTooSoon, IsIdle, IsOutsideBlock, IsFromIdle, IsTooLateFor, IsOutsideSpace, IsNoSpace, IsAlike, IsNotHome}
-use Rattle.un_steps.specs.Rules.{IsNotCongruent, IsTooDear, IsNoFrame}
+use Rattle.un_steps.specs.Rules.{IsNotCongruent, IsTooDear, IsNoFrame, IsTooFull}
 use Rattle.un_steps.specs.declared.step.Rule.{Rule}
 use Rattle.un_steps.specs.declared.step.Rule.TheVariants.{TooSoon, Idle, OutsideBlock, FromIdle, TooLateFor, OutsideSpace, NoSpace, Alike}
-use Rattle.un_steps.specs.declared.step.Rule.TheVariants.{NotHome, NotCongruent, TooDear, NoFrame}
+use Rattle.un_steps.specs.declared.step.Rule.TheVariants.{NotHome, NotCongruent, TooDear, NoFrame, TooFull}
 use Rattle.un_steps.specs.declared.step.Step.{Step}
 
 -- ---- values that may go
@@ -41,6 +41,7 @@ Takes NotHome m s p v y = IsNotHome m s p v y
 Takes NotCongruent m s p v y = IsNotCongruent m s p v y
 Takes TooDear m s p v y = ⊥
 Takes NoFrame m s p v y = IsNoFrame m s p v y
+Takes TooFull m s p v y = ⊥
 
 -- value y of variable v may go from the box s by a rule at place o
 abbrev pub MayGo : Rule → Model → Option ℕ → Sets → ℕ → ℕ → ℕ → Type 0
@@ -56,6 +57,7 @@ MayGo NotHome m limit s o v y = MayGoAt m o (λ (p : Operation). IsNotHome m s p
 MayGo NotCongruent m limit s o v y = MayGoAt m o (λ (p : Operation). IsNotCongruent m s p v y)
 MayGo TooDear m limit s o v y = IsSomeAnd (slice_get m.blocks o) (λ (vars : BlockVars). IsTooDear m limit s vars v y)
 MayGo NoFrame m limit s o v y = MayGoAt m o (λ (p : Operation). IsNoFrame m s p v y)
+MayGo TooFull m limit s o v y = IsTooFull m s (operations_in m o) v
 
 -- ---- steps
 
@@ -63,6 +65,7 @@ MayGo NoFrame m limit s o v y = MayGoAt m o (λ (p : Operation). IsNoFrame m s p
 abbrev pub places_of : Rule → Model → ℕ
 places_of TooSoon m = length (arcs_of m)
 places_of TooDear m = length m.blocks
+places_of TooFull m = length m.blocks
 places_of _ m = length (operations_of m)
 
 -- the rule has this place, there is the variable, and each of its values from the first to the last may go

@@ -1,5 +1,6 @@
 pub mod Allowed
 pub mod Found
+pub mod Full
 pub mod Keeping
 pub mod Rules
 pub mod Words

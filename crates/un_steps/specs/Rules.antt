@@ -1,9 +1,12 @@
--- The twelve rules of a step log: which values y of variable v may go from a box, at an operation, an arc or a block. Nothing goes by a
+-- The thirteen rules of a step log: which values y of variable v may go from a box, at an operation, an arc or a block. Nothing goes by a
 -- least or a greatest value where there is none.
-use Rattle.std.specs.Prelude.{ℕ, ◌≡◌, ◌≢◌, ◌⊎◌, ◌+◌, ◌*◌, ◌-◌, ◌<◌, ◌≤◌, ◌==◌, not, Bool, true, false, if◌then◌else◌, List, [], ◌∷◌}
-use Rattle.std.specs.Prelude.{Option, Some, None, IsSomeAnd, length, slice_get, Contains}
+use Rattle.std.specs.Prelude.{ℕ, ◌≡◌, ◌≢◌, ◌⊎◌, ◌+◌, ◌*◌, ◌-◌, ◌<◌, ◌≤◌, ◌==◌, ◌&&◌, nat_le, nat_lt, not, Bool, true, false}
+use Rattle.std.specs.Prelude.{if◌then◌else◌, List, []}
+use Rattle.std.specs.Prelude.{◌∷◌, Option, Some, None, IsSomeAnd, length, map, sum_by, slice_get, Contains}
 use Rattle.std.specs.List.{list_any}
 use Rattle.un_base.specs.declared.ids.TempId.{TempId}
+use Rattle.un_isa.specs.PacketCounts.{places_of}
+use Rattle.un_isa.specs.declared.packet_counts.Resource.{Resource}
 use Rattle.un_isa.specs.declared.reg.Reg.{Reg}
 use Rattle.un_ir.specs.Extended.{is_copy}
 use Rattle.un_ir.specs.Kinds.{is_delimiter, is_mandatory}
@@ -12,15 +15,15 @@ use Rattle.un_ir.specs.Live.{targets_of}
 use Rattle.un_ir.specs.declared.extended.TheConstants.{SPILL, RELOAD}
 use Rattle.un_ir.specs.declared.extended.Operand.{Operand}
 use Rattle.un_ir.specs.declared.extended.ExtBlock.{ExtBlock}
-use Rattle.un_domains.specs.Sets.{Sets, set_at, has}
+use Rattle.un_domains.specs.Sets.{Sets, set_at, has, least}
 use Rattle.un_model.specs.declared.model.Model.{Model}
 use Rattle.un_model.specs.declared.model.BlockVars.{BlockVars}
 use Rattle.un_model.specs.Arcs.{own_instr, value_read}
 use Rattle.un_model.specs.Congruences.{term_of, live_in_temps}
 use Rattle.un_model.specs.Instructions.{instruction_of, space_read, space_given}
-use Rattle.un_model.specs.Solutions.{InSpace}
+use Rattle.un_model.specs.Solutions.{InSpace, share_of}
 use Rattle.un_steps.specs.Words.{Operation, Alternative, least_of, greatest_of, regs, definer_of, IsVar, result_vars, other_vars, time_of}
-use Rattle.un_steps.specs.Words.{cycles, giving_cycles, IsSure, IsOff, instrs, gap_by, alternative, choices_left}
+use Rattle.un_steps.specs.Words.{cycles, giving_cycles, IsSure, is_sure, IsOff, instrs, gap_by, alternative, choices_left}
 
 -- ---- 1: of an arc, cycles before the least of its start and the gap, and cycles after which the gap leads past the greatest of its end
 
@@ -166,3 +169,37 @@ abbrev pub IsNoFrame : Model → Sets → Operation → ℕ → ℕ → Type 0
 IsNoFrame m s p v y =
     (is_copy p.op.kind ≡ true) × IsSomeAnd p.vars.instr (λ i. ((set_at s m.flag.0 ≡ 0 ∷ []) × (i.0 ≡ v) × IsAccess y)
     ⊎ ((m.flag.0 ≡ v) × (y ≡ 0) × AreAccesses (set_at s i.0)))
+
+-- ---- 13: of a block, its end and the cycles of its operations, where in some cycles its operations take more than the packets have
+
+-- the least and the greatest of some cycles are of the n cycles from a on
+abbrev pub are_among : ℕ → ℕ → Option ℕ → Option ℕ → Bool
+are_among a n (Some first) (Some last) = nat_le a first && nat_lt last (a + n)
+are_among a n (Some first) None = false
+are_among a n None last = false
+
+-- an operation is sure, and all cycles that are left to it are
+abbrev pub issues_in : Sets → ℕ → ℕ → Operation → Bool
+issues_in s a n p = is_sure s p && are_among a n (least_of (cycles s p)) (greatest_of (cycles s p))
+
+-- how much of a resource an operation takes with the instruction of this number, and at least, by those that are left to it
+abbrev pub share_with : Model → Resource → Operation → ℕ → ℕ
+share_with m r p i = share_of m.ext.table r (instruction_of p.op.kind i)
+
+abbrev pub least_share : Model → Sets → Resource → Operation → ℕ
+least_share m s r p = least (map (share_with m r p) (instrs s p))
+
+-- how much of it an operation takes for sure in these cycles
+abbrev pub takes_in : Model → Sets → Resource → ℕ → ℕ → Operation → ℕ
+takes_in m s r a n p = if issues_in s a n p then least_share m s r p else 0
+
+-- of some resource operations take more than these packets have
+abbrev pub IsFullIn : Model → Sets → List Operation → ℕ → ℕ → Type 0
+IsFullIn m s ps a n = (r : Resource) × (n * places_of r < sum_by (takes_in m s r a n) ps)
+
+-- v is the variable of the time of an operation: its cycle, or the block's end
+abbrev pub IsTimeOf : List Operation → ℕ → Type 0
+IsTimeOf ps v = (i : ℕ) × IsSomeAnd (slice_get ps i) (λ (p : Operation). IsVar (time_of p) v)
+
+abbrev pub IsTooFull : Model → Sets → List Operation → ℕ → Type 0
+IsTooFull m s ps v = IsTimeOf ps v × ((a : ℕ) × (n : ℕ) × IsFullIn m s ps a n)

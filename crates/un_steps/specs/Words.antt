@@ -1,6 +1,6 @@
 -- The words of step logs: the operations of a model by their numbers, and what a box leaves to them. A box is a set of values for each
 -- variable.
-use Rattle.std.specs.Prelude.{ℕ, ◌≡◌, ◌+◌, ◌==◌, nat_lt, Bool, false, if◌then◌else◌, List, [], ◌∷◌, ◌++◌, Option, Some}
+use Rattle.std.specs.Prelude.{ℕ, ◌≡◌, ◌+◌, ◌==◌, nat_lt, not, Bool, true, false, if◌then◌else◌, List, [], ◌∷◌, ◌++◌, Option, Some}
 use Rattle.std.specs.Prelude.{None, map, length, filter, slice_get}
 use Rattle.std.specs.List.{flat_map}
 use Rattle.std.specs.Option.{option_to_list}
@@ -57,6 +57,15 @@ operations_of m = operations_from 0 m.ext.blocks m.blocks
 
 abbrev pub operation_at : Model → ℕ → Option Operation
 operation_at m n = slice_get (operations_of m) n
+
+abbrev pub operations_by : ℕ → Option ExtBlock → Option BlockVars → List Operation
+operations_by b (Some block) (Some vars) = block_operations b block vars
+operations_by b (Some block) None = []
+operations_by b None vars = []
+
+-- those of the block with the number b
+abbrev pub operations_in : Model → ℕ → List Operation
+operations_in m b = operations_by b (slice_get m.ext.blocks b) (slice_get m.blocks b)
 
 -- ---- temporaries
 
@@ -139,6 +148,14 @@ IsNeverZero s (Some v) = has (set_at s v.0) 0 ≡ false
 -- it is active in all of the box: it cannot be left out, or is not
 abbrev pub IsSure : Sets → Operation → Type 0
 IsSure s p = IsNeverZero s p.vars.instr
+
+-- the same as a test
+abbrev pub is_never_zero : Sets → Option VarId → Bool
+is_never_zero s None = true
+is_never_zero s (Some v) = not (has (set_at s v.0) 0)
+
+abbrev pub is_sure : Sets → Operation → Bool
+is_sure s p = is_never_zero s p.vars.instr
 
 abbrev pub IsZeroAlone : Sets → Option VarId → Type 0
 IsZeroAlone s None = ⊥

@@ -1,13 +1,15 @@
 //! Whether a step of a log is allowed.
 
-ghost use Rattle.std.specs.Prelude.{◌≡◌, ◌↔◌, ◌<◌, ◌≤◌, ℕ, IsTrue, IsSomeAnd, true, List, length, slice_get};
+ghost use Rattle.std.specs.Prelude.{◌≡◌, ◌↔◌, ◌<◌, ◌≤◌, ℕ, IsTrue, IsSomeAnd, MatchOption, true, List, [], length, slice_get};
 ghost use Rattle.un_domains.specs.Sets.{set_at, has};
 ghost use Rattle.un_steps.specs.Allowed.{arcs_of, MayGoAtArc, MayGo, Takes, places_of, IsAllowed};
 ghost use Rattle.un_steps.specs.Found.{operation_of};
 ghost use Rattle.un_steps.specs.declared.step.Rule.TheVariants.{TooDear};
-ghost use Rattle.un_steps.specs.Rules.{IsTooSoon};
-ghost use Rattle.un_steps.specs.Words.{operation_at, operations_of};
+ghost use Rattle.un_steps.specs.Full.{operations_of as of_block};
+ghost use Rattle.un_steps.specs.Rules.{IsTooSoon, IsFullIn, IsTooFull};
+ghost use Rattle.un_steps.specs.Words.{operation_at, operations_of, operations_in};
 
+use crate::full::{Block, is_full, is_too_full};
 use crate::look;
 use crate::operation::{Found, operation};
 use crate::rules::{
@@ -20,7 +22,7 @@ use un_domains::store::Store;
 use un_model::model::{Arc, Model};
 
 /// Arc `n`, of those of all blocks.
-fn arc(m: &Model, n: u32) -> Option<Arc>
+pub fn arc(m: &Model, n: u32) -> Option<Arc>
     ensures { result ≡ slice_get (arcs_of m.now) n }
 {
     let mut rest = n as usize;
@@ -84,6 +86,7 @@ fn takes(rule: Rule, m: &Model, s: &Store, p: &Found<'_>, v: VarId, y: u32) -> b
         Rule::NotCongruent => is_not_congruent(m, s, p, v, y),
         Rule::TooDear => false,
         Rule::NoFrame => is_no_frame(m, s, p, v, y),
+        Rule::TooFull => false,
     }
 }
 
@@ -107,8 +110,49 @@ fn may_go_by_end(m: &Model, limit: Option<u64>, s: &Store, n: u32, v: VarId, y: 
     }
 }
 
+/// Block `n`.
+pub fn block(m: &Model, n: u32) -> Option<Block<'_>>
+    ensures { MatchOption result (operations_in m.now n ≡ []) (λ b. operations_in m.now n ≡ of_block b) }
+{
+    let owner = m.ext.blocks.as_slice().get(n as usize)?;
+    let vars = m.blocks.as_slice().get(n as usize)?;
+    Some(Block {
+        number: n as usize,
+        owner,
+        vars,
+    })
+}
+
+/// Whether the values of a variable may go by the packets of block `n`.
+fn may_go_by_packets(m: &Model, s: &Store, n: u32, v: VarId) -> bool
+    ensures { IsTrue result ↔ IsTooFull m.now s.now.sets (operations_in m.now n) v.0 }
+{
+    match block(m, n) {
+        None => false,
+        Some(b) => is_too_full(m, s, &b, v),
+    }
+}
+
+/// Whether in some cycles the operations of block `n` take more than the packets have: where they do not, no value goes by the packets.
+pub fn is_full_at(m: &Model, s: &Store, n: u32) -> bool
+    ensures { IsTrue result ↔ ((a : ℕ) × (k : ℕ) × IsFullIn m.now s.now.sets (operations_in m.now n) a k) }
+{
+    match block(m, n) {
+        None => false,
+        Some(b) => is_full(m, s, &b),
+    }
+}
+
 /// Whether a value may go from the box by a rule at a place.
-fn may_go(rule: Rule, m: &Model, limit: Option<u64>, s: &Store, n: u32, v: VarId, y: u32) -> bool
+pub fn may_go(
+    rule: Rule,
+    m: &Model,
+    limit: Option<u64>,
+    s: &Store,
+    n: u32,
+    v: VarId,
+    y: u32,
+) -> bool
     ensures { IsTrue result ↔ MayGo rule m.now limit s.now.sets n v.0 y }
 {
     match rule {
@@ -124,6 +168,7 @@ fn may_go(rule: Rule, m: &Model, limit: Option<u64>, s: &Store, n: u32, v: VarId
         Rule::NotCongruent => may_go_at(Rule::NotCongruent, m, s, n, v, y),
         Rule::TooDear => may_go_by_end(m, limit, s, n, v, y),
         Rule::NoFrame => may_go_at(Rule::NoFrame, m, s, n, v, y),
+        Rule::TooFull => may_go_by_packets(m, s, n, v),
     }
 }
 
@@ -151,7 +196,7 @@ fn has_block(m: &Model, n: u32) -> bool
 }
 
 /// Whether a rule has place `n`.
-fn has_place(rule: Rule, m: &Model, n: u32) -> bool
+pub fn has_place(rule: Rule, m: &Model, n: u32) -> bool
     ensures { IsTrue result ↔ (n < places_of rule m.now) }
 {
     match rule {
@@ -167,6 +212,7 @@ fn has_place(rule: Rule, m: &Model, n: u32) -> bool
         Rule::NotCongruent => has_operation(m, n),
         Rule::TooDear => has_block(m, n),
         Rule::NoFrame => has_operation(m, n),
+        Rule::TooFull => has_block(m, n),
     }
 }
 
@@ -196,6 +242,42 @@ fn all_may_go(m: &Model, limit: Option<u64>, s: &Store, step: &Step) -> bool
     true
 }
 
+/// Whether some value of a step is left.
+fn takes_some(s: &Store, step: &Step) -> bool
+    ensures { IsTrue result ↔ ((y : ℕ) × (step.now.first ≤ y) × (y ≤ step.now.last) × (has (set_at s.now.sets step.now.var.0) y ≡ true)) }
+{
+    let end = look::end(s, step.var);
+    let last = end.min(u64::from(step.last) + 1);
+    for y in u64::from(step.first)..last {
+        if look::has(s, step.var, y as u32) {
+            return true;
+        }
+    }
+    false
+}
+
+/// Whether all values of a step may go by the packets of a block, which tell no value from another.
+fn all_may_go_by_packets(m: &Model, s: &Store, step: &Step) -> bool
+    ensures { IsTrue result ↔ ((y : ℕ) → step.now.first ≤ y → y ≤ step.now.last → has (set_at s.now.sets step.now.var.0) y ≡ true
+        → IsTooFull m.now s.now.sets (operations_in m.now step.now.place) step.now.var.0) }
+{
+    if !takes_some(s, step) {
+        return true;
+    }
+    may_go_by_packets(m, s, step.place, step.var)
+}
+
+/// Whether all values of a step may go, each rule asked in its way.
+fn takes_none_that_stays(m: &Model, limit: Option<u64>, s: &Store, step: &Step) -> bool
+    ensures { IsTrue result ↔ ((y : ℕ) → step.now.first ≤ y → y ≤ step.now.last → has (set_at s.now.sets step.now.var.0) y ≡ true
+        → MayGo step.now.rule m.now limit s.now.sets step.now.place step.now.var.0 y) }
+{
+    match step.rule {
+        Rule::TooFull => all_may_go_by_packets(m, s, step),
+        _ => all_may_go(m, limit, s, step),
+    }
+}
+
 /// Whether a step is allowed in a box.
 pub fn is_allowed(m: &Model, limit: Option<u64>, s: &Store, step: &Step) -> bool
     ensures { IsTrue result ↔ IsAllowed m.now limit s.now.sets step.now }
@@ -206,5 +288,5 @@ pub fn is_allowed(m: &Model, limit: Option<u64>, s: &Store, step: &Step) -> bool
     if step.var.0 >= s.len() {
         return false;
     }
-    all_may_go(m, limit, s, step)
+    takes_none_that_stays(m, limit, s, step)
 }

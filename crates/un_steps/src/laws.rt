@@ -8,7 +8,7 @@ ghost use Rattle.un_steps.specs.Keeping.{IsGround, Keeps};
 ghost use Rattle.un_steps.specs.declared.step.Rule.{Rule};
 ghost use Rattle.un_steps.specs.declared.step.Step.{Step};
 ghost use Rattle.un_steps.specs.declared.step.Rule.TheVariants.{TooSoon, Idle, OutsideBlock, FromIdle, TooLateFor, OutsideSpace};
-ghost use Rattle.un_steps.specs.declared.step.Rule.TheVariants.{NoSpace, Alike, NotHome, NotCongruent, TooDear, NoFrame};
+ghost use Rattle.un_steps.specs.declared.step.Rule.TheVariants.{NoSpace, Alike, NotHome, NotCongruent, TooDear, NoFrame, TooFull};
 
 use un_model::model::Model;
 
@@ -120,6 +120,15 @@ fn alike(m: &Model, limit: Option<u64>)
     let _ = limit;
 }
 
+/// Cycles and the end of a block whose packets are to hold more than they can.
+fn too_full(m: &Model, limit: Option<u64>)
+    requires { IsGround m.now }
+    ensures { Keeps m.now limit TooFull }
+{
+    let _ = m;
+    let _ = limit;
+}
+
 /// No rule takes a value of a solution below the limit from a box in which it lies, and so the solution lies in what an allowed step
 /// leaves. It does nothing.
 pub fn keeps(m: &Model, limit: Option<u64>)
@@ -139,4 +148,5 @@ pub fn keeps(m: &Model, limit: Option<u64>)
     not_congruent(m, limit);
     too_dear(m, limit);
     no_frame(m, limit);
+    too_full(m, limit);
 }

@@ -32,7 +32,7 @@ pub struct Found<'a> {
 }
 
 /// Operation `n` of the block, counted from its first.
-fn in_block<'a>(b: usize, block: &'a ExtBlock, vars: &'a BlockVars, n: usize) -> Found<'a>
+pub fn in_block<'a>(b: usize, block: &'a ExtBlock, vars: &'a BlockVars, n: usize) -> Found<'a>
     requires op { n < length block.now.ops }
     requires vars { n < length vars.now.ops }
     ensures { Some (operation_of result) ≡ slice_get (block_operations b block.now vars.now) n }

@@ -1,4 +1,4 @@
-//! The twelve rules: whether a value may go.
+//! The first twelve rules: whether a value may go.
 
 ghost use Rattle.std.specs.Prelude.{◌≡◌, ◌≢◌, ◌↔◌, ◌+◌, ◌-◌, ◌*◌, ◌^◌, ◌<◌, ◌≤◌, ◌⊎◌, ℕ, IsTrue, IsSomeAnd, true, false, List, [], ◌∷◌, length, slice_get, Contains};
 ghost use Rattle.un_base.specs.declared.ids.TempId.{TempId};

@@ -2,6 +2,12 @@
 
 use un_base::ids::VarId;
 
+/// How many rules need no counting, from the first on.
+pub const PLAIN_RULES: u32 = 12;
+
+/// How many rules there are: after those that need none, the one that counts what a block's packets are to hold.
+pub const ALL_RULES: u32 = 13;
+
 /// By which rule values go.
 #[derive(Clone, Copy, PartialEq)]
 pub enum Rule {
@@ -29,6 +35,8 @@ pub enum Rule {
     TooDear,
     /// What accesses a frame that there is not, and that there is none.
     NoFrame,
+    /// Cycles and the end of a block where some of its packets are to hold more than they can.
+    TooFull,
 }
 
 /// Values of a variable that go.

@@ -1,7 +1,7 @@
 use Rattle.un_steps.specs.Keeping.{Keeps}
 use Rattle.un_steps.specs.declared.step.Rule.{Rule}
 use Rattle.un_steps.specs.declared.step.Rule.TheVariants.{TooSoon, Idle, OutsideBlock, FromIdle, TooLateFor, OutsideSpace, NoSpace, Alike}
-use Rattle.un_steps.specs.declared.step.Rule.TheVariants.{NotHome, NotCongruent, TooDear, NoFrame}
+use Rattle.un_steps.specs.declared.step.Rule.TheVariants.{NotHome, NotCongruent, TooDear, NoFrame, TooFull}
 use Rattle.un_steps.proofs.Stepping.{stays}
 use Rattle.un_steps.proofs.laws.keeps.Goals as goal
 
@@ -21,6 +21,7 @@ returns-clause-rules c = by
     by NotCongruent = c.not_congruent.ensures
     by TooDear = c.too_dear.ensures
     by NoFrame = c.no_frame.ensures
+    by TooFull = c.too_full.ensures
 
 pub returns-clause-steps : goal.returns-clause-steps
 returns-clause-steps c = stays c.args.m.now c.args.limit (returns-clause-rules c)
