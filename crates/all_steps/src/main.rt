@@ -2,7 +2,8 @@
 //! alone. Between two `|` stands a row: a function, `^`, what is tried, `?`, and the steps or the log. `&` is the function of the row
 //! before. What is tried is a line of a letter, the numbers of general registers (0 for all) and of slots, a report's version and a
 //! limit (`-` for none). Behind the letter `b` are lines of a box, `VAR LO HI`: the variable keeps the values of its first domain from
-//! LO to HI; each step is tried by itself on this box. Behind the letter `l` there are none.
+//! LO to HI; each step is tried by itself on this box. Behind the letters `l` and `c` there are none: a log is judged, and one is made and
+//! judged, by the rules that need no counting, or by all.
 #![tactic(auto)]
 
 mod rows;

@@ -18,12 +18,13 @@ use un_isa::reg::SLOTS;
 use un_isa::table::table_of;
 use un_judge::judge::judge;
 use un_judge::verdict::StepVerdict;
+use un_logs::log::log_tree;
 use un_model::model::{ASSIGNABLE, Model, Options};
 use un_problem::problem::model;
 use un_reader::read::read_function;
 use un_root::store::first_box;
 use un_steps::allowed::is_allowed;
-use un_steps::step::{Rule, Step};
+use un_steps::step::{ALL_RULES, PLAIN_RULES, Rule, Step};
 use un_tree::node::{Node, Tree};
 
 /// What stands before and behind the first byte of this kind.
@@ -99,7 +100,8 @@ fn rule_of(number: u32) -> Rule {
         9 => Rule::NotHome,
         10 => Rule::NotCongruent,
         11 => Rule::TooDear,
-        _ => Rule::NoFrame,
+        12 => Rule::NoFrame,
+        _ => Rule::TooFull,
     }
 }
 
@@ -185,12 +187,35 @@ fn closed_tree(alloc: Global) -> Result<Tree, NoMemory>
     Ok(Tree { nodes })
 }
 
+/// How many rules a row's log is judged and made by.
+fn rules_of(head: &[u8]) -> u32 {
+    if head.starts_with(b"c") {
+        ALL_RULES
+    } else {
+        PLAIN_RULES
+    }
+}
+
+/// Appends a verdict.
+fn put_verdict(out: &mut Vec<u8>, verdict: StepVerdict) -> Result<(), NoMemory> {
+    match verdict {
+        StepVerdict::Yes => put_text(out, b"Yes\n"),
+        StepVerdict::Short => put_text(out, b"Short\n"),
+        StepVerdict::BadStep(line) => {
+            put_text(out, b"BadStep ")?;
+            put_number(out, u64::from(line))?;
+            put_text(out, b"\n")
+        }
+    }
+}
+
 /// Appends what a log comes to on the tree of one closed leaf.
 fn put_judged(
     alloc: Global,
     out: &mut Vec<u8>,
     m: &Model,
     limit: Option<u64>,
+    rules: u32,
     log: &[u8],
 ) -> Result<(), NoMemory>
     requires model { IsModel m.now }
@@ -199,13 +224,29 @@ fn put_judged(
     requires options { AreOptions m.now.options }
 {
     let t = closed_tree(alloc)?;
-    match judge(alloc, m, limit, &t, log)? {
-        StepVerdict::Yes => put_text(out, b"Yes\n"),
-        StepVerdict::Short => put_text(out, b"Short\n"),
-        StepVerdict::BadStep(line) => {
-            put_text(out, b"BadStep ")?;
-            put_number(out, u64::from(line))?;
-            put_text(out, b"\n")
+    let verdict = judge(alloc, m, limit, rules, &t, log)?;
+    put_verdict(out, verdict)
+}
+
+/// Appends what the log that is made of the tree of one closed leaf comes to, or that there is none.
+fn put_logged(
+    alloc: Global,
+    out: &mut Vec<u8>,
+    m: &Model,
+    limit: Option<u64>,
+    rules: u32,
+) -> Result<(), NoMemory>
+    requires model { IsModel m.now }
+    requires extended { IsExtended m.now.ext }
+    requires fit { IsFit m.now.ext.table }
+    requires options { AreOptions m.now.options }
+{
+    let t = closed_tree(alloc)?;
+    match log_tree(alloc, m, limit, rules, &t)? {
+        Err(_) => put_text(out, b"no log\n"),
+        Ok(log) => {
+            put_text(out, b"log ")?;
+            put_judged(alloc, out, m, limit, rules, log.as_slice())
         }
     }
 }
@@ -219,7 +260,9 @@ fn put_row(alloc: Global, out: &mut Vec<u8>, function: &[u8], row: &[u8]) -> Res
     if head.starts_with(b"b") {
         put_steps(alloc, out, &m, limit, lines, asked)
     } else {
-        put_judged(alloc, out, &m, limit, asked)
+        let rules = rules_of(head);
+        put_judged(alloc, out, &m, limit, rules, asked)?;
+        put_logged(alloc, out, &m, limit, rules)
     }
 }
 

@@ -1,0 +1,9 @@
+pub mod Listing
+pub mod Passing
+pub mod Reaching
+pub mod Sticking
+pub mod Turning
+pub mod VarLaws
+pub mod Walking
+pub mod Within
+pub mod Writing
