@@ -35,6 +35,8 @@ mod runs;
 #[cfg(test)]
 mod searches;
 #[cfg(test)]
+mod steps;
+#[cfg(test)]
 mod values;
 #[cfg(test)]
 mod verdicts;

@@ -595,6 +595,8 @@ fn put_status(found: &mut Vec<u8>, status: Status) -> Result<(), NoMemory> {
         Status::Usage { word } => put_number_of(found, b"usage ", word),
         Status::BadReport { line } => put_number_of(found, b"bad ", line),
         Status::BadTable { code } => put_number_of(found, b"bad table ", u32::from(code)),
+        Status::NoLog { node } => put_number_of(found, b"no log ", node),
+        Status::BadSteps { line } => put_number_of(found, b"bad steps ", line),
         Status::Found { cost } => {
             put_text(found, b"found ")?;
             put_number(found, cost)

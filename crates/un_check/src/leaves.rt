@@ -29,7 +29,7 @@ struct Leaves {
 }
 
 /// The limit of an answer's tree: for code its cost.
-pub(crate) fn limit_of(answer: &Answered) -> Option<u64>
+pub fn limit_of(answer: &Answered) -> Option<u64>
     ensures { result ≡ limit_of answer.now }
 {
     match answer {

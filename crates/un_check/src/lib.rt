@@ -4,7 +4,7 @@
 mod answer;
 mod judge;
 pub mod laws;
-mod leaves;
+pub mod leaves;
 pub mod lines;
 pub mod report;
 pub mod tree;

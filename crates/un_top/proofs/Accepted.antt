@@ -54,7 +54,7 @@ is_view r h = record {
   tree = record { nodes = r.tree.nodes.items; are = (refl, h.fit); spelled = refl };
 }
 
-one_report : (text : List ℕ) (r s : Report) → IsReportRead text r → IsReportRead text s → AreSame r s
+pub one_report : (text : List ℕ) (r s : Report) → IsReportRead text r → IsReportRead text s → AreSame r s
 one_report text r s h k =
     same_reports (view_of s) r s h.is_report k.is_report
     (view_back text r (view_of s) h.is_report h.spelled (is_view s k.is_report) (k.spelled ∙ sym (view_is s (view_of s) (is_view_of s))))
@@ -64,7 +64,7 @@ one_report text r s h k =
 abbrev claim : List ℕ → ℕ → Answered → List Node → Claim
 claim name nodes answer tree = record { name = name; nodes = nodes; answer = answer; tree = tree }
 
-same_claim : (r s : Report) → AreSame r s → claim_of s ≡ claim_of r
+pub same_claim : (r s : Report) → AreSame r s → claim_of s ≡ claim_of r
 same_claim r s h =
     ap (λ (x : List ℕ). claim x s.nodes s.answer s.tree.nodes.items) h.name
     ∙ (ap (λ (x : ℕ). claim r.name x s.answer s.tree.nodes.items) h.nodes

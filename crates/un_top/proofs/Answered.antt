@@ -10,7 +10,7 @@ use Rattle.std.specs.Result.{IfErr, IfOk, OnErr, OnOk}
 use Rattle.un_outside.specs.Causes.{AppendsPrefix}
 use Rattle.un_outside.specs.declared.status.Status.{Status}
 use Rattle.un_outside.specs.declared.status.Status.TheVariants.{Done, Infeasible, Spent, TextFault, Usage, ReadFault, WriteFault, NoMemory, No}
-use Rattle.un_outside.specs.declared.status.Status.TheVariants.{BadReport, BadTable, Found, Cut}
+use Rattle.un_outside.specs.declared.status.Status.TheVariants.{BadReport, BadTable, Found, Cut, NoLog, BadSteps}
 use Rattle.un_commands.proofs.CommandLaws.{one_command}
 use Rattle.un_commands.proofs.WordLaws.{command_is_good}
 use Rattle.un_commands.specs.Commands.{IsCommand}
@@ -69,6 +69,8 @@ refuses_told told b laws text before now (Found cost) is h = late_told told b la
 refuses_told told b laws text before now Cut is h = late_told told b laws text Cut is h
 refuses_told told b laws text before now (BadReport l) is h = late_told told b laws text (BadReport l) is h
 refuses_told told b laws text before now (BadTable c) is h = late_told told b laws text (BadTable c) is h
+refuses_told told b laws text before now (NoLog i) is h = late_told told b laws text (NoLog i) is h
+refuses_told told b laws text before now (BadSteps n) is h = late_told told b laws text (BadSteps n) is h
 
 pub refused_told : (told : Option (List ℕ)) (command : ReadingCommand) (text items : List ℕ) (before now : ℕ) (outcome : Result Output Status)
     → text ≡ items → IfSome told (λ (bs : List ℕ). items ≡ bs) → IfErr outcome (RefusesText (behaviour_of command) text)
@@ -142,6 +144,8 @@ refuses_by words command told before now (Found cost) asked h = late_by words co
 refuses_by words command told before now Cut asked h = late_by words command told Cut asked h
 refuses_by words command told before now (BadReport l) asked h = late_by words command told (BadReport l) asked h
 refuses_by words command told before now (BadTable c) asked h = late_by words command told (BadTable c) asked h
+refuses_by words command told before now (NoLog i) asked h = late_by words command told (NoLog i) asked h
+refuses_by words command told before now (BadSteps n) asked h = late_by words command told (BadSteps n) asked h
 
 pub refused_by : (words : List (List ℕ)) (command : ReadingCommand) (told : Option (List ℕ)) (before now : ℕ) (outcome : Result Output Status)
     → IsCommand words (Reads command) → IfErr outcome (Refuses (behaviour_of command) told before now)
@@ -227,6 +231,8 @@ is_refusal words told before now (Found cost) h = h.0
 is_refusal words told before now Cut h = h.0
 is_refusal words told before now (BadReport l) h = h.0
 is_refusal words told before now (BadTable c) h = h.0
+is_refusal words told before now (NoLog i) h = h.0
+is_refusal words told before now (BadSteps n) h = h.0
 
 pub only_of : (words : List (List ℕ)) (told : Option (List ℕ)) (before now : ℕ) (outcome : Result Output Status)
     → IfErr outcome (RefusesWords words told before now) → IfErr outcome IsRefusal
@@ -312,6 +318,8 @@ refused_fault words text line code before now (Found cost) r h = absurd (late_fa
 refused_fault words text line code before now Cut r h = absurd (late_fault words text Cut line code r.1 h)
 refused_fault words text line code before now (BadReport l) r h = absurd (late_fault words text (BadReport l) line code r.1 h)
 refused_fault words text line code before now (BadTable c) r h = absurd (late_fault words text (BadTable c) line code r.1 h)
+refused_fault words text line code before now (NoLog i) r h = absurd (late_fault words text (NoLog i) line code r.1 h)
+refused_fault words text line code before now (BadSteps n) r h = absurd (late_fault words text (BadSteps n) line code r.1 h)
 
 -- a run that wrote, or refused before it, answers the input's fault
 pub answers_fault : (words : List (List ℕ)) (told : Option (List ℕ)) (before now : ℕ) (outcome : Result Output Status) (status : Status)
@@ -341,6 +349,8 @@ refused_late words text before now (Found cost) late r h = one_late_of words tex
 refused_late words text before now Cut late r h = one_late_of words text Cut late r.1 h
 refused_late words text before now (BadReport l) late r h = one_late_of words text (BadReport l) late r.1 h
 refused_late words text before now (BadTable c) late r h = one_late_of words text (BadTable c) late r.1 h
+refused_late words text before now (NoLog i) late r h = one_late_of words text (NoLog i) late r.1 h
+refused_late words text before now (BadSteps n) late r h = one_late_of words text (BadSteps n) late r.1 h
 
 -- a run that wrote, or refused before it, answers the input's late answer
 pub answers_late : (words : List (List ℕ)) (told : Option (List ℕ)) (before now : ℕ) (outcome : Result Output Status) (status : Status)
@@ -370,6 +380,8 @@ late_refusal words told before now (Found cost) late r = absurd late
 late_refusal words told before now Cut late r = absurd late
 late_refusal words told before now (BadReport l) late r = r.1
 late_refusal words told before now (BadTable c) late r = r.1
+late_refusal words told before now (NoLog i) late r = r.1
+late_refusal words told before now (BadSteps n) late r = r.1
 
 not_late : (s : Status) → IsWritten s → IsLate s → ⊥
 not_late Done w late = late
@@ -385,6 +397,8 @@ not_late (Found cost) w late = late
 not_late Cut w late = late
 not_late (BadReport l) w late = w
 not_late (BadTable c) w late = w
+not_late (NoLog i) w late = w
+not_late (BadSteps n) w late = w
 
 pub late_is : (words : List (List ℕ)) (told : Option (List ℕ)) (before now : ℕ) (outcome : Result Output Status) (status : Status)
     (old new : Option (List ℕ)) → IfErr outcome (RefusesWords words told before now) → IfErr outcome (λ e. status ≡ e)
@@ -414,6 +428,8 @@ accepted_by words text command (Found cost) asked good told = tt
 accepted_by words text command Cut asked good told = tt
 accepted_by words text command (BadReport l) asked good told = tt
 accepted_by words text command (BadTable c) asked good told = tt
+accepted_by words text command (NoLog i) asked good told = tt
+accepted_by words text command (BadSteps n) asked good told = tt
 
 pub answers_accepted : (words : List (List ℕ)) (told : Option (List ℕ)) (status : Status)
     → ((line code : ℕ) → status ≡ TextFault line code → IfSome told (λ (text : List ℕ). IsFaultOf words text line code))
@@ -438,6 +454,8 @@ refused_out (Found cost) words text old new r k = absurd r
 refused_out Cut words text old new r k = absurd r
 refused_out (BadReport l) words text old new r k = k
 refused_out (BadTable c) words text old new r k = k
+refused_out (NoLog i) words text old new r k = k
+refused_out (BadSteps n) words text old new r k = k
 
 -- what `out` holds after an output was written whole
 whole_out : (words : List (List ℕ)) (text out : List ℕ) (old new : Option (List ℕ)) (s : Status) → IsWritten s → IsOutputOf words text s out
@@ -455,6 +473,8 @@ whole_out words text out old new (Found cost) w o a = (out, o, a)
 whole_out words text out old new Cut w o a = (out, o, a)
 whole_out words text out old new (BadReport l) w o a = absurd w
 whole_out words text out old new (BadTable c) w o a = absurd w
+whole_out words text out old new (NoLog i) w o a = absurd w
+whole_out words text out old new (BadSteps n) w o a = absurd w
 
 -- what `out` holds after a run that wrote, or refused before it
 pub out_after : (words : List (List ℕ)) (told : Option (List ℕ)) (outcome : Result Output Status) (status : Status)
@@ -485,6 +505,8 @@ written_keeps (Found cost) old new w = tt
 written_keeps Cut old new w = tt
 written_keeps (BadReport l) old new w = absurd w
 written_keeps (BadTable c) old new w = absurd w
+written_keeps (NoLog i) old new w = absurd w
+written_keeps (BadSteps n) old new w = absurd w
 
 -- a refusal before writing keeps `out`, and writes nothing
 refused_keeps : (s : Status) (old new : Option (List ℕ)) → IsRefusal s → new ≡ old → KeepsOut s old new × (IsWritten s → ⊥)
@@ -501,6 +523,8 @@ refused_keeps (Found cost) old new r k = absurd r
 refused_keeps Cut old new r k = absurd r
 refused_keeps (BadReport l) old new r k = (k, λ w. w)
 refused_keeps (BadTable c) old new r k = (k, λ w. w)
+refused_keeps (NoLog i) old new r k = (k, λ w. w)
+refused_keeps (BadSteps n) old new r k = (k, λ w. w)
 
 pub kept_and_answered : (words : List (List ℕ)) (outcome : Result Output Status) (status : Status) (old new : Option (List ℕ))
     → IfErr outcome IsRefusal → IfErr outcome (λ e. status ≡ e) → OnErr outcome (new ≡ old)
@@ -530,6 +554,8 @@ not_written (Found cost) r w = r
 not_written Cut r w = r
 not_written (BadReport l) r w = w
 not_written (BadTable c) r w = w
+not_written (NoLog i) r w = w
+not_written (BadSteps n) r w = w
 
 -- what holds of an output, and of a refusal for a later part of an input, holds of an answer that comes of a whole input
 pub when_whole : {T : Type 0} (outcome : Result T Status) (status : Status) (P : Type 0) → IfErr outcome IsRefusal

@@ -9,7 +9,7 @@ use Rattle.un_commands.specs.declared.command.Command.TheVariants.{Reads}
 use Rattle.un_commands.specs.declared.command.ReadingCommand.{ReadingCommand}
 use Rattle.un_outside.specs.declared.status.Status.{Status}
 use Rattle.un_outside.specs.declared.status.Status.TheVariants.{Done, Infeasible, Spent, TextFault, Usage, ReadFault, WriteFault, NoMemory, No}
-use Rattle.un_outside.specs.declared.status.Status.TheVariants.{BadReport, BadTable, Found, Cut}
+use Rattle.un_outside.specs.declared.status.Status.TheVariants.{BadReport, BadTable, Found, Cut, NoLog, BadSteps}
 use Rattle.un_top.specs.Behaviours.{behaviour_of}
 use Rattle.un_top.specs.Runs.{IsLate, IsOutputOf, IsFaultOf, IsLateOf, OutAfter}
 use Rattle.un_top.proofs.Answered.{fault_as, late_as, output_as}
@@ -20,6 +20,12 @@ wrote_well : (words : List (List ℕ)) (command : ReadingCommand) (text out : Li
     → IsOutputOf words text status out → (behaviour_of command).EndsWell text status
 wrote_well words command text out status asked o =
     let laws = lawful command in laws.well text status out (output_as words command text status out asked o)
+
+-- and so did one that answers for a later part of a good input
+late_well : (words : List (List ℕ)) (command : ReadingCommand) (text : List ℕ) (status : Status) → IsCommand words (Reads command)
+    → (behaviour_of command).Good text → IsLateOf words text status → (behaviour_of command).EndsWell text status
+late_well words command text status asked good late =
+    let laws = lawful command in laws.good_late text status good (late_as words command text status asked late)
 
 module _ (words : List (List ℕ)) (text : List ℕ) (command : ReadingCommand) (old new : Option (List ℕ)) (R W : Type 0)
     (asked : IsCommand words (Reads command)) (good : (behaviour_of command).Good text) where
@@ -40,8 +46,10 @@ module _ (words : List (List ℕ)) (text : List ℕ) (command : ReadingCommand) 
   completed (No cause) u f b r w o = inr (inr (wrote_well words command text o.0 (No cause) asked o.1))
   completed (Found cost) u f b r w o = inr (inr (wrote_well words command text o.0 (Found cost) asked o.1))
   completed Cut u f b r w o = inr (inr (wrote_well words command text o.0 Cut asked o.1))
-  completed (BadReport l) u f b r w o = let laws = lawful command in absurd (laws.good_late text (BadReport l) good (late_as words command text (BadReport l) asked (b tt)))
-  completed (BadTable c) u f b r w o = let laws = lawful command in absurd (laws.good_late text (BadTable c) good (late_as words command text (BadTable c) asked (b tt)))
+  completed (BadReport l) u f b r w o = inr (inr (late_well words command text (BadReport l) asked good (b tt)))
+  completed (BadTable c) u f b r w o = inr (inr (late_well words command text (BadTable c) asked good (b tt)))
+  completed (NoLog i) u f b r w o = inr (inr (late_well words command text (NoLog i) asked good (b tt)))
+  completed (BadSteps n) u f b r w o = inr (inr (late_well words command text (BadSteps n) asked good (b tt)))
 
 -- a run over a good input puts its output out, or there was no memory, where nothing outside fails
 pub completes : (words : List (List ℕ)) (told : Option (List ℕ)) (status : Status) (old new : Option (List ℕ)) (R W : Type 0)

@@ -1,6 +1,6 @@
 -- What is so of every command's behaviour: a text has one fault at most, and with it nothing else; one late answer at most, and with it no
 -- output; a good text has neither; and an output ends a run as it should.
-use Rattle.std.proofs.Common.{ℕ, ◌≡◌, ◌<◌, ◌≤◌, ◌⊎◌, inl, inr, List, length, refl, subst, sym, ap, ◌∙◌, arith}
+use Rattle.std.proofs.Common.{ℕ, ◌≡◌, ◌<◌, ◌≤◌, ◌⊎◌, inl, inr, Bool, List, length, refl, subst, sym, ap, ◌∙◌, arith}
 use Rattle.std.specs.declared.result.Result.{Result}
 use Rattle.std.specs.declared.result.Result.TheVariants.{Ok, Err}
 use Rattle.un_baseline.specs.RoomyOptions.{AreRoomyFor}
@@ -8,6 +8,7 @@ use Rattle.un_baseline.specs.SpilledCost.{spill_cost}
 use Rattle.un_commands.specs.Alloc.{model_options}
 use Rattle.un_commands.specs.declared.command.ReadingCommand.{ReadingCommand}
 use Rattle.un_commands.specs.declared.command.ReadingCommand.TheVariants.{Alloc, Run, RunCode, Check, Improve, AllocTable, CheckTable, RunCodeTable, Refute, RefuteCheck}
+use Rattle.un_commands.specs.declared.command.ReadingCommand.TheVariants.{Steps, StepsCheck}
 use Rattle.un_commands.specs.declared.command.SearchOptions.{SearchOptions}
 use Rattle.un_faults.specs.declared.fault.Fault.TheVariants.{TooMany}
 use Rattle.un_ir.specs.declared.function.Function.{Function}
@@ -23,7 +24,7 @@ use Rattle.un_outside.specs.declared.status.NoCause.{NoCause}
 use Rattle.un_outside.specs.declared.status.NoCause.TheVariants.{Name, Strict, Closed, Mirror, Short as Torn}
 use Rattle.un_outside.specs.declared.status.Status.{Status}
 use Rattle.un_outside.specs.declared.status.Status.TheVariants.{Done, Infeasible, Spent, TextFault, Usage, ReadFault, WriteFault, NoMemory, No}
-use Rattle.un_outside.specs.declared.status.Status.TheVariants.{BadReport, BadTable, Found, Cut}
+use Rattle.un_outside.specs.declared.status.Status.TheVariants.{BadReport, BadTable, Found, Cut, NoLog, BadSteps}
 use Rattle.un_reader.specs.Read.{IsRead, too_long}
 use Rattle.un_top.proofs.RefutationLines.{one_refutation_line, refutation_not_bad}
 use Rattle.un_refutation.specs.declared.refutation.Refutation.{Refutation}
@@ -38,7 +39,7 @@ use Rattle.un_runs.specs.Refusals.{IsBadSourceRun, IsBadCodeRun}
 use Rattle.un_target.proofs.TableLaws.{one_cause, not_both}
 use Rattle.un_target.specs.Causes.{code_of}
 use Rattle.un_top.specs.Behaviours.{Behaviour, behaviour_of, of_alloc, of_run, of_run_code, of_check, of_improve, of_alloc_table, of_check_table, of_run_code_table, IsBadPart, IsPartFault, IsDone, IsSearched}
-use Rattle.un_top.specs.Behaviours.{IsChecked, IsRefuteEnd, EndsSearch, EndsCheck, EndsImprove, EndsRefute, of_refute, of_refutation}
+use Rattle.un_top.specs.Behaviours.{IsChecked, IsRefuteEnd, EndsSearch, EndsCheck, EndsImprove, EndsRefute, of_refute, of_refutation, of_steps, of_steps_check}
 use Rattle.un_top.specs.Checks.{IsBadCheck, told_status}
 use Rattle.un_top.specs.Improvements.{IsAnswerTo, IsBadNumbers}
 use Rattle.un_top.specs.Refutations.{IsAnswerBelow, IsOfAnother, IsJudgedSo, IsBadRefutation, verdict_status}
@@ -49,6 +50,8 @@ use Rattle.un_top.specs.declared.limits.TheConstants.{INPUT}
 use Rattle.un_top.proofs.FaultLaws.{fault_unique, read_has_no_fault}
 use Rattle.un_top.proofs.GeneratedLaws.{code_done}
 use Rattle.un_top.proofs.ReportLines.{one_report_line, report_not_bad, one_numbers_line}
+use Rattle.un_top.proofs.StepLaws.{log_read, log_late_read, log_is_late, log_late_once, log_not_late, log_good_late, log_ends, ends_log}
+use Rattle.un_top.proofs.StepLaws.{told_read, told_late_read, told_is_late, told_late_once, told_not_late, told_good_late, told_ends, ends_judge}
 
 pub record IsLawful (b : Behaviour) : Type 0 where
   pub too_long : (text : List ℕ) → b.most < length text → b.Fault text 0 13
@@ -60,7 +63,7 @@ pub record IsLawful (b : Behaviour) : Type 0 where
   pub is_late : (text : List ℕ) (status : Status) → b.Late text status → IsLate status
   pub one_late : (text : List ℕ) (s t : Status) → b.Late text s → b.Late text t → s ≡ t
   pub output_late : (text : List ℕ) (status : Status) (out : List ℕ) (late : Status) → b.Output text status out → b.Late text late → ⊥
-  pub good_late : (text : List ℕ) (late : Status) → b.Good text → b.Late text late → ⊥
+  pub good_late : (text : List ℕ) (late : Status) → b.Good text → b.Late text late → b.EndsWell text late
   pub ends : (text : List ℕ) (status : Status) (out : List ℕ) → b.Output text status out → b.Ending status
   pub well : (text : List ℕ) (status : Status) (out : List ℕ) → b.Output text status out → b.EndsWell text status
   pub short : (text : List ℕ) → b.EndsWell text NoMemory
@@ -94,6 +97,8 @@ bad_line bad text (No cause) h = absurd h
 bad_line bad text (Found cost) h = absurd h
 bad_line bad text Cut h = absurd h
 bad_line bad text (BadTable code) h = absurd h
+bad_line bad text (NoLog i) h = absurd h
+bad_line bad text (BadSteps n) h = absurd h
 
 part_late : (bad : List ℕ → ℕ → Type 0) (text : List ℕ) (status : Status) → IsBadPart bad text status → IsLate status
 part_late bad text status h = let at = bad_line bad text status h in subst IsLate (sym at.1) tt
@@ -139,7 +144,7 @@ alloc_lawful o = record {
   is_late = λ text status late. absurd late;
   one_late = λ text s t a b. absurd a;
   output_late = λ text status out late h l. l;
-  good_late = λ text late good l. l;
+  good_late = λ text late good l. absurd l;
   ends = λ text status out h. search_ends status h.found.report.answer h.found.ends;
   well = λ text status out h. (
     ends_searched status (search_ends status h.found.report.answer h.found.ends),
@@ -166,7 +171,7 @@ run_lawful = record {
   one_late = one_part IsBadSourceRun one_source_line;
   output_late = λ text status out late h l. (let at = bad_line IsBadSourceRun text late l in
       good_source text at.0 (source_run_good text out h.2) at.3);
-  good_late = λ text late good l. (let at = bad_line IsBadSourceRun text late l in good_source text at.0 good.1 at.3);
+  good_late = λ text late good l. (let at = bad_line IsBadSourceRun text late l in absurd (good_source text at.0 good.1 at.3));
   ends = λ text status out h. h.0;
   well = λ text status out h. done_well status h.0;
   short = λ text. tt;
@@ -187,7 +192,7 @@ run_code_lawful = record {
   one_late = one_part IsBadCodeRun one_code_line;
   output_late = λ text status out late h l. (let at = bad_line IsBadCodeRun text late l in
       good_code text at.0 (code_run_good HEXAGON text out h.2) at.3);
-  good_late = λ text late good l. (let at = bad_line IsBadCodeRun text late l in good_code text at.0 good.1 at.3);
+  good_late = λ text late good l. (let at = bad_line IsBadCodeRun text late l in absurd (good_code text at.0 good.1 at.3));
   ends = λ text status out h. h.0;
   well = λ text status out h. done_well status h.0;
   short = λ text. tt;
@@ -217,7 +222,7 @@ check_lawful = record {
   output_late = λ text status out late h l. (let at = bad_line IsBadCheck text late l in
       let own = h.1.check.answered in report_not_bad (second_part text) own.report at.0 own.reported at.3.bad);
   good_late = λ text late good l. (let at = bad_line IsBadCheck text late l in
-      report_not_bad (second_part text) good.1.report at.0 good.1.reported at.3.bad);
+      absurd (report_not_bad (second_part text) good.1.report at.0 good.1.reported at.3.bad));
   ends = λ text status out h. check_ends status h.1.check.told h.1.check.ends;
   well = λ text status out h. ends_checked status (check_ends status h.1.check.told h.1.check.ends);
   short = λ text. tt;
@@ -248,7 +253,7 @@ improve_lawful o = record {
   output_late = λ text status out late h l. (let at = bad_line IsBadNumbers text late l in
       let own = h.1.told in numbers_not_bad (second_part text) own.numbers.values at.0 own.read at.3.bad);
   good_late = λ text late good l. (let at = bad_line IsBadNumbers text late l in
-      numbers_not_bad (second_part text) good.1.values at.0 good.1.numbers at.3.bad);
+      absurd (numbers_not_bad (second_part text) good.1.values at.0 good.1.numbers at.3.bad));
   ends = λ text status out h. (let own = h.1.told in improve_ends h.1.function own.model o.nodes own.numbers status out own.answer);
   well = λ text status out h. (let own = h.1.told in
       ends_improved status (improve_ends h.1.function own.model o.nodes own.numbers status out own.answer));
@@ -282,6 +287,8 @@ late_cases table line NoMemory h = absurd h
 late_cases table line (No cause) h = absurd h
 late_cases table line (Found cost) h = absurd h
 late_cases table line Cut h = absurd h
+late_cases table line (NoLog i) h = absurd h
+late_cases table line (BadSteps n) h = absurd h
 
 -- so neither may be where both are impossible
 no_late : (table line : ℕ → Type 0) (status : Status) → ((code : ℕ) → table code → ⊥) → ((n : ℕ) → line n → ⊥) → IsLateBy table line status → ⊥
@@ -322,7 +329,7 @@ alloc_table_lawful o = record {
   one_late = λ text s t. one_late_by _ _ s t (λ c d h k. one_code (second_part text) c d h.refused k.refused) (λ m n h k. absurd h) (λ c n h k. k);
   output_late = λ text status out late h l.
       no_late _ _ late (λ c k. good_table (second_part text) c (record { table = h.1.table; is_table = h.1.is_table }) k.refused) (λ n k. k) l;
-  good_late = λ text late good l. no_late _ _ late (λ c k. good_table (second_part text) c good.1.table k.refused) (λ n k. k) l;
+  good_late = λ text late good l. absurd (no_late _ _ late (λ c k. good_table (second_part text) c good.1.table k.refused) (λ n k. k) l);
   ends = λ text status out h. search_ends status h.1.report.found.report.answer h.1.report.found.ends;
   well = λ text status out h. (
     ends_searched status (search_ends status h.1.report.found.report.answer h.1.report.found.ends),
@@ -347,8 +354,8 @@ check_table_lawful = record {
       no_late _ _ late (λ c k. good_table (middle_part text) c (record { table = h.1.table; is_table = h.1.is_table }) k.refused)
       (λ n k. report_not_bad (last_part text) own.report n own.reported k.refused) l);
   good_late = λ text late good l.
-      no_late _ _ late (λ c k. good_table (middle_part text) c good.1.table k.refused)
-      (λ n k. report_not_bad (last_part text) good.1.report n good.1.reported k.refused) l;
+      absurd (no_late _ _ late (λ c k. good_table (middle_part text) c good.1.table k.refused)
+      (λ n k. report_not_bad (last_part text) good.1.report n good.1.reported k.refused) l);
   ends = λ text status out h. check_ends status h.1.check.told h.1.check.ends;
   well = λ text status out h. ends_checked status (check_ends status h.1.check.told h.1.check.ends);
   short = λ text. tt;
@@ -372,8 +379,8 @@ run_code_table_lawful = record {
       no_late _ _ late (λ c k. good_table (middle_part text) c (record { table = h.2.table; is_table = h.2.is_table }) k.refused)
       (λ n k. good_texts (first_part text) (last_part text) n (run_good h.2.table (first_part text) (last_part text) out h.2.run) k.refused) l;
   good_late = λ text late good l.
-      no_late _ _ late (λ c k. good_table (middle_part text) c good.1.0 k.refused)
-      (λ n k. good_texts (first_part text) (last_part text) n good.1.1 k.refused) l;
+      absurd (no_late _ _ late (λ c k. good_table (middle_part text) c good.1.0 k.refused)
+      (λ n k. good_texts (first_part text) (last_part text) n good.1.1 k.refused) l);
   ends = λ text status out h. h.0;
   well = λ text status out h. done_well status h.0;
   short = λ text. tt;
@@ -396,6 +403,8 @@ below_ends f m nodes limit (Found cost) out h = inr (inl (cost, refl))
 below_ends f m nodes limit Cut out h = inr (inr refl)
 below_ends f m nodes limit (BadReport line) out h = absurd h
 below_ends f m nodes limit (BadTable code) out h = absurd h
+below_ends f m nodes limit (NoLog i) out h = absurd h
+below_ends f m nodes limit (BadSteps n) out h = absurd h
 
 ends_below : (status : Status) → EndsRefute status → IsRefuteEnd status
 ends_below status (inl e) = subst IsRefuteEnd (sym e) tt
@@ -413,7 +422,7 @@ refute_lawful limit o = record {
   is_late = λ text status late. absurd late;
   one_late = λ text s t a b. absurd a;
   output_late = λ text status out late h l. l;
-  good_late = λ text late good l. l;
+  good_late = λ text late good l. absurd l;
   ends = λ text status out h. below_ends h.function h.model o.nodes limit status out h.answer;
   well = λ text status out h. ends_below status (below_ends h.function h.model o.nodes limit status out h.answer);
   short = λ text. tt;
@@ -447,10 +456,57 @@ refutation_lawful = record {
   output_late = λ text status out late h l. (let at = bad_line IsBadRefutation text late l in
       let own = h.1.told in refutation_not_bad (second_part text) own.refutation at.0 own.read at.3.bad);
   good_late = λ text late good l. (let at = bad_line IsBadRefutation text late l in
-      refutation_not_bad (second_part text) good.1.refutation at.0 good.1.refuted at.3.bad);
+      absurd (refutation_not_bad (second_part text) good.1.refutation at.0 good.1.refuted at.3.bad));
   ends = λ text status out h. (let own = h.1.told in refutation_ends (table_of LAST) h.1.function own.refutation status out own.told);
   well = λ text status out h. (let own = h.1.told in
       ends_checked status (refutation_ends (table_of LAST) h.1.function own.refutation status out own.told));
+  short = λ text. tt;
+}
+
+-- ---- the log of a report's tree
+
+steps_lawful : (counts : Bool) → IsLawful (of_steps counts)
+steps_lawful counts = record {
+  too_long = λ text long. inl (record { long = long; no_line = refl; too_many = refl });
+  one_fault = part_fault;
+  output_fault = λ text status out line code h. (let f = log_read counts (first_part text) (second_part text) status out h.1 in
+      read_part text f.0 line code h.0 f.1);
+  late_fault = λ text status line code late. (let f = log_late_read counts (first_part text) (second_part text) status late.1 in
+      read_part text f.0 line code late.0 f.1);
+  no_fault = λ text line code good. read_part text good.1.0 line code good.0 good.1.1;
+  good_fault = λ text line code good. read_part text good.1.function line code good.0 good.1.read;
+  is_late = λ text status late. log_is_late counts (first_part text) (second_part text) status late.1;
+  one_late = λ text s t a b. log_late_once counts (first_part text) (second_part text) s t a.1 b.1;
+  output_late = λ text status out late h l. log_not_late counts (first_part text) (second_part text) status out late h.1 l.1;
+  good_late = λ text late good l. log_good_late counts (first_part text) (second_part text) good.1.function good.1.report late
+      (record { function = good.1.read; report = good.1.reported }) l.1;
+  ends = λ text status out h. log_ends counts (first_part text) (second_part text) status out h.1;
+  well = λ text status out h. ends_log status (log_ends counts (first_part text) (second_part text) status out h.1);
+  short = λ text. tt;
+}
+
+-- ---- the answer to a log
+
+steps_check_lawful : (counts : Bool) → IsLawful (of_steps_check counts)
+steps_check_lawful counts = record {
+  too_long = λ text long. inl (record { long = long; no_line = refl; too_many = refl });
+  one_fault = part_fault;
+  output_fault = λ text status out line code h.
+      (let f = told_read counts (first_part text) (middle_part text) (last_part text) status out h.1 in read_part text f.0 line code h.0 f.1);
+  late_fault = λ text status line code late.
+      (let f = told_late_read counts (first_part text) (middle_part text) (last_part text) status late.1 in
+      read_part text f.0 line code late.0 f.1);
+  no_fault = λ text line code good. read_part text good.1.0 line code good.0 good.1.1;
+  good_fault = λ text line code good. read_part text good.1.function line code good.0 good.1.read.function;
+  is_late = λ text status late. told_is_late counts (first_part text) (middle_part text) (last_part text) status late.1;
+  one_late = λ text s t a b. told_late_once counts (first_part text) (middle_part text) (last_part text) s t a.1 b.1;
+  output_late = λ text status out late h l.
+      told_not_late counts (first_part text) (middle_part text) (last_part text) status out late h.1 l.1;
+  good_late = λ text late good l. told_good_late counts (first_part text) (middle_part text) (last_part text) good.1.function good.1.report late
+      good.1.read l.1;
+  ends = λ text status out h. told_ends counts (first_part text) (middle_part text) (last_part text) status out h.1;
+  well = λ text status out h.
+      ends_judge status (told_ends counts (first_part text) (middle_part text) (last_part text) status out h.1);
   short = λ text. tt;
 }
 
@@ -467,3 +523,5 @@ lawful CheckTable = check_table_lawful
 lawful RunCodeTable = run_code_table_lawful
 lawful (Refute limit o) = refute_lawful limit o
 lawful RefuteCheck = refutation_lawful
+lawful (Steps counts) = steps_lawful counts
+lawful (StepsCheck counts) = steps_check_lawful counts

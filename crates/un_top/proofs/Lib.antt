@@ -14,5 +14,6 @@ pub mod RefuteLaws
 pub mod ReportLines
 pub mod Rows
 pub mod SearchLaws
+pub mod StepLaws
 pub mod TableInputs
 pub mod Written

@@ -6,7 +6,7 @@ use Rattle.un_isa.specs.Fit.{IsFit}
 use Rattle.un_isa.specs.declared.table.Table.{Table}
 use Rattle.un_outside.specs.declared.status.Status.{Status}
 use Rattle.un_outside.specs.declared.status.Status.TheVariants.{Done, Infeasible, Spent, TextFault, Usage, ReadFault, WriteFault, NoMemory, No}
-use Rattle.un_outside.specs.declared.status.Status.TheVariants.{BadReport, BadTable, Found, Cut}
+use Rattle.un_outside.specs.declared.status.Status.TheVariants.{BadReport, BadTable, Found, Cut, NoLog, BadSteps}
 use Rattle.un_reader.specs.Read.{IsRead}
 use Rattle.un_report_reader.specs.FirstBad.{IsFirstBad}
 use Rattle.un_runs.specs.Inputs.{first_part, second_part, middle_part, last_part}
@@ -37,6 +37,8 @@ table_by b input text (No cause) late h = absurd h
 table_by b input text (Found cost) late h = absurd h
 table_by b input text Cut late h = absurd h
 table_by b input text (BadReport line) late h = absurd h
+table_by b input text (NoLog node) late h = absurd h
+table_by b input text (BadSteps line) late h = absurd h
 
 -- the function of the first part
 function_in : (input first : List ℕ) (f : Function) → first ≡ first_part input → IsRead first f → (g : Function) × IsRead (first_part input) g

@@ -1,5 +1,5 @@
 -- What each command does: a record for each.
-use Rattle.std.specs.Prelude.{ℕ, ◌≡◌, ◌<◌, ◌≤◌, ◌⊎◌, length, List}
+use Rattle.std.specs.Prelude.{ℕ, ◌≡◌, ◌<◌, ◌≤◌, ◌⊎◌, length, Bool, List}
 use Rattle.un_baseline.specs.RoomyOptions.{AreRoomyFor}
 use Rattle.un_commands.specs.Alloc.{model_options}
 use Rattle.un_commands.specs.declared.command.Command.{Command}
@@ -8,6 +8,7 @@ use Rattle.un_commands.specs.declared.command.MakingCommand.{MakingCommand}
 use Rattle.un_commands.specs.declared.command.MakingCommand.TheVariants.{Generate, GenerateAlloc}
 use Rattle.un_commands.specs.declared.command.ReadingCommand.{ReadingCommand}
 use Rattle.un_commands.specs.declared.command.ReadingCommand.TheVariants.{Alloc, Run, RunCode, Check, Improve, AllocTable, CheckTable, RunCodeTable, Refute, RefuteCheck}
+use Rattle.un_commands.specs.declared.command.ReadingCommand.TheVariants.{Steps, StepsCheck}
 use Rattle.un_commands.specs.declared.command.SearchOptions.{SearchOptions}
 use Rattle.un_ir.specs.declared.function.Function.{Function}
 use Rattle.un_isa.specs.Hexagon.{HEXAGON}
@@ -16,7 +17,7 @@ use Rattle.un_isa.specs.declared.table.TheConstants.{LAST}
 use Rattle.un_outside.specs.declared.status.NoCause.{NoCause}
 use Rattle.un_outside.specs.declared.status.NoCause.TheVariants.{Solution}
 use Rattle.un_outside.specs.declared.status.Status.{Status}
-use Rattle.un_outside.specs.declared.status.Status.TheVariants.{Done, Infeasible, Spent, NoMemory, No, BadReport, Found, Cut}
+use Rattle.un_outside.specs.declared.status.Status.TheVariants.{Done, Infeasible, Spent, NoMemory, No, BadReport, Found, Cut, NoLog, BadSteps}
 use Rattle.un_reader.specs.Read.{IsRead}
 use Rattle.un_reader.specs.declared.limits.TheConstants.{TEXT}
 use Rattle.un_runs.specs.Grammars.{IsSourceInput, IsCodeInput}
@@ -28,6 +29,7 @@ use Rattle.un_top.specs.Generated.{IsGeneratedReport}
 use Rattle.un_top.specs.Improvements.{IsImprovement, IsNumbersInput, IsBadNumbers}
 use Rattle.un_top.specs.Refutations.{IsRefuting, IsRefutationCheck, IsRefutationInput, IsBadRefutation}
 use Rattle.un_top.specs.Reports.{IsReportOf}
+use Rattle.un_top.specs.Steps.{IsSteps, IsStepsCheck, IsLateSteps, IsLateStepsCheck, IsLogInput}
 use Rattle.un_top.specs.Tables.{IsTableReport, IsTableCheck, IsTableRun, IsFunctionTable, IsTableCheckInput, IsTableRunInput}
 use Rattle.un_top.specs.Tables.{IsLateReport, IsLateCheck, IsLateRun}
 use Rattle.un_top.specs.declared.limits.TheConstants.{INPUT}
@@ -100,6 +102,16 @@ abbrev pub IsRefuteEnd : Status → Type 0
 IsRefuteEnd (Found cost) = Unit {0}
 IsRefuteEnd Cut = Unit {0}
 IsRefuteEnd status = IsDone status
+
+-- or a leaf gave no log
+abbrev pub IsLogEnd : Status → Type 0
+IsLogEnd (NoLog node) = Unit {0}
+IsLogEnd status = IsChecked status
+
+-- or a log was not accepted
+abbrev pub IsJudgeEnd : Status → Type 0
+IsJudgeEnd (BadSteps line) = Unit {0}
+IsJudgeEnd status = IsChecked status
 
 abbrev pub EndsDone : Status → Type 0
 EndsDone status = status ≡ Done
@@ -211,6 +223,32 @@ of_refutation = record {
   EndsWell = λ text status. IsChecked status;
 }
 
+-- the log of a report's tree
+abbrev pub of_steps : Bool → Behaviour
+of_steps counts = record {
+  most = INPUT;
+  Output = λ text status out. (length text ≤ INPUT) × IsSteps counts text status out;
+  Ending = EndsCheck;
+  Fault = IsPartFault;
+  Faultless = HasNoPartFault;
+  Late = IsLateSteps counts;
+  Good = λ text. (length text ≤ INPUT) × IsCheckInput text;
+  EndsWell = λ text status. IsLogEnd status;
+}
+
+-- the answer to a log
+abbrev pub of_steps_check : Bool → Behaviour
+of_steps_check counts = record {
+  most = INPUT;
+  Output = λ text status out. (length text ≤ INPUT) × IsStepsCheck counts text status out;
+  Ending = EndsCheck;
+  Fault = IsPartFault;
+  Faultless = HasNoPartFault;
+  Late = IsLateStepsCheck counts;
+  Good = λ text. (length text ≤ INPUT) × IsLogInput text;
+  EndsWell = λ text status. IsJudgeEnd status;
+}
+
 -- ---- the same by a table that is a part of the input
 
 abbrev pub of_alloc_table : SearchOptions → Behaviour
@@ -261,6 +299,8 @@ behaviour_of CheckTable = of_check_table
 behaviour_of RunCodeTable = of_run_code_table
 behaviour_of (Refute limit o) = of_refute limit o
 behaviour_of RefuteCheck = of_refutation
+behaviour_of (Steps counts) = of_steps counts
+behaviour_of (StepsCheck counts) = of_steps_check counts
 
 -- ---- the commands without one
 

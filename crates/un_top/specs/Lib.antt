@@ -6,4 +6,5 @@ pub mod Refutations
 pub mod Reports
 pub mod Runs
 pub mod Searches
+pub mod Steps
 pub mod Tables

@@ -12,7 +12,7 @@ use Rattle.un_commands.specs.declared.command.ReadingCommand.{ReadingCommand}
 use Rattle.un_outside.specs.Causes.{Rose, AppendsPrefix}
 use Rattle.un_outside.specs.declared.status.Status.{Status}
 use Rattle.un_outside.specs.declared.status.Status.TheVariants.{Done, Infeasible, Spent, TextFault, Usage, ReadFault, WriteFault, NoMemory, No}
-use Rattle.un_outside.specs.declared.status.Status.TheVariants.{BadReport, BadTable, Found, Cut}
+use Rattle.un_outside.specs.declared.status.Status.TheVariants.{BadReport, BadTable, Found, Cut, NoLog, BadSteps}
 use Rattle.un_runs.specs.declared.refused.Refused.{Refused}
 use Rattle.un_runs.specs.declared.refused.Refused.TheVariants as RefusedBy
 use Rattle.un_top.specs.Behaviours.{Behaviour, behaviour_of, IsOutput, Ends}
@@ -33,6 +33,8 @@ IsWritten _ = ⊥
 abbrev pub IsLate : Status → Type 0
 IsLate (BadReport line) = Unit {0}
 IsLate (BadTable code) = Unit {0}
+IsLate (NoLog node) = Unit {0}
+IsLate (BadSteps line) = Unit {0}
 IsLate _ = ⊥
 
 -- the answers that come of a whole input
@@ -214,3 +216,5 @@ line_of (Found cost) = []
 line_of Cut = []
 line_of (BadReport line) = numbered (codes "bad report: line ") line
 line_of (BadTable code) = table_line code
+line_of (NoLog node) = numbered (codes "no log: node ") node
+line_of (BadSteps line) = numbered (codes "bad steps: line ") line

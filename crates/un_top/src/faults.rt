@@ -119,5 +119,7 @@ pub fn write_line<K: Sink>(sink: &mut K, status: Status) -> Result<(), Failed>
         Status::NoMemory => write_all(sink, b"no memory\n"),
         Status::BadReport { line } => write_numbered(sink, b"bad report: line ", line),
         Status::BadTable { code } => write_table(sink, code),
+        Status::NoLog { node } => write_numbered(sink, b"no log: node ", node),
+        Status::BadSteps { line } => write_numbered(sink, b"bad steps: line ", line),
     }
 }

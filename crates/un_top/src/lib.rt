@@ -16,3 +16,4 @@ mod refutation;
 mod refute;
 pub mod run;
 pub mod search;
+mod steps;

@@ -28,6 +28,7 @@ use crate::reading::function_of;
 use crate::refutation::refutation_output;
 use crate::refute::refute_output;
 use crate::search::search_report;
+use crate::steps::{steps_check_output, steps_output};
 use std::alloc::Global;
 use un_base::memory_error::NoMemory;
 use un_commands::command::{Command, MakingCommand, ReadingCommand, SearchOptions};
@@ -204,6 +205,8 @@ fn most_bytes(command: ReadingCommand) -> usize
         ReadingCommand::RunCodeTable => INPUT,
         ReadingCommand::Refute { .. } => TEXT,
         ReadingCommand::RefuteCheck => INPUT,
+        ReadingCommand::Steps { .. } => INPUT,
+        ReadingCommand::StepsCheck { .. } => INPUT,
     }
 }
 
@@ -226,6 +229,8 @@ fn over_input(alloc: Global, command: ReadingCommand, text: &[u8]) -> Result<Out
         ReadingCommand::RunCodeTable => table_run(alloc, text),
         ReadingCommand::Refute { limit, options } => refute_output(alloc, text, limit, options),
         ReadingCommand::RefuteCheck => refutation_output(alloc, text),
+        ReadingCommand::Steps { counts } => steps_output(alloc, text, counts),
+        ReadingCommand::StepsCheck { counts } => steps_check_output(alloc, text, counts),
     }
 }
 

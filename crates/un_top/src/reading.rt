@@ -1,8 +1,8 @@
-//! What the program reads of texts: a function, the view of a report, the numbers of a solution, and a refutation.
+//! What the program reads of texts: a function, a report or its view, the numbers of a solution, and a refutation.
 
 ghost use Rattle.std.specs.Prelude.{◌≡◌, IfOk, IfErr};
 ghost use Rattle.un_reader.specs.Read.{IsRead};
-ghost use Rattle.un_report_reader.specs.Readings.{IsViewRead, IsNumbers};
+ghost use Rattle.un_report_reader.specs.Readings.{IsViewRead, IsReportRead, IsNumbers};
 ghost use Rattle.un_refutation.specs.Readings.{IsRefutationRead};
 ghost use Rattle.un_runs.specs.Refusals.{RefusesFunction};
 ghost use Rattle.un_top.specs.Checks.{unread_by, unviewed_by, RefusesReport};
@@ -16,9 +16,10 @@ use un_reader::error::ReadError;
 use un_reader::read::read_function;
 use un_refutation::read::read_refutation;
 use un_refutation::refutation::Refutation;
+use un_report::report::Report;
 use un_report::view::ReportView;
 use un_report_reader::error::ReportError;
-use un_report_reader::read::{read_numbers, read_view};
+use un_report_reader::read::{read_numbers, read_report, read_view};
 use un_runs::refused::Refused;
 
 /// Why there is no outcome where a function's text is not read.
@@ -59,6 +60,17 @@ pub(crate) fn view_of<'a>(alloc: Global, text: &'a [u8]) -> Result<ReportView<'a
 {
     match read_view(alloc, text) {
         Ok(view) => Ok(view),
+        Err(error) => Err(unviewed_by(error)),
+    }
+}
+
+/// The report that a text is.
+pub(crate) fn report_in(alloc: Global, text: &[u8]) -> Result<Report, Refused>
+    ensures ok { IfOk result (IsReportRead text.now) }
+    ensures refused { IfErr result (RefusesReport text.now) }
+{
+    match read_report(alloc, text) {
+        Ok(report) => Ok(report),
         Err(error) => Err(unviewed_by(error)),
     }
 }
