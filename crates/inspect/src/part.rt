@@ -31,6 +31,7 @@ use un_parts::live::live_text;
 use un_problem::problem::{default_options, extended, model};
 use un_shown::arcs::put_all_arcs;
 use un_shown::emission::put_emitted;
+use un_shown::facts::put_facts;
 use un_shown::input::Parts;
 use un_shown::solution::{put_values, put_verdict, solution_of};
 use un_shown::variables::put_variables;
@@ -141,6 +142,7 @@ fn put_of_model(
         Shown::Violations => verdict(alloc, out, m, rest),
         Shown::Emit => code(alloc, out, f, m, rest),
         Shown::Arcs => told(arcs(out, f, m)),
+        Shown::Facts => told(put_facts(out, f, m)),
         Shown::Rounds => rounds(alloc, out, f, m, rest),
         Shown::Drawn(form) => drawn(alloc, out, f, t, m, rest, form),
     }

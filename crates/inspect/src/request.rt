@@ -21,6 +21,8 @@ pub enum Shown {
     Emit,
     /// The precedences among the operations that every solution issues, and what every solution costs at least by them.
     Arcs,
+    /// All that it is, as plain lines.
+    Facts,
     /// What rounds of propagators leave of the variables' domains, under a limit on the cost and decisions.
     Rounds,
     /// A solution drawn or explained, or the clauses that values break.
@@ -87,7 +89,7 @@ const DEFAULT: Options = Options {
 };
 
 /// The words, and the part that each names.
-static PARTS: [(&[u8], Part); 15] = [
+static PARTS: [(&[u8], Part); 16] = [
     (b"live", Part::Live),
     (b"extended", Part::Extended),
     (b"variables", Part::Model(Shown::Variables)),
@@ -95,6 +97,7 @@ static PARTS: [(&[u8], Part); 15] = [
     (b"violations", Part::Model(Shown::Violations)),
     (b"emit", Part::Model(Shown::Emit)),
     (b"arcs", Part::Model(Shown::Arcs)),
+    (b"facts", Part::Model(Shown::Facts)),
     (b"rounds", Part::Model(Shown::Rounds)),
     (b"draw", Part::Model(Shown::Drawn(Form::Tables))),
     (b"explain", Part::Model(Shown::Drawn(Form::Words))),

@@ -8,13 +8,16 @@ use un_commands::line::read_command;
 use un_outside::words::Word;
 
 /// The first words of commands.
-static COMMANDS: [&str; 12] = [
-    "alloc", "run", "check", "improve", "refute", "gen", "asm", "compare", "sweep", "import",
-    "inspect", "build",
+static COMMANDS: [&str; 13] = [
+    "alloc", "run", "check", "improve", "refute", "steps", "gen", "asm", "compare", "sweep",
+    "import", "inspect", "build",
 ];
 
 /// The options of `alloc`; `improve` and `refute` have the first three.
 static OPTIONS: [&str; 6] = ["--nodes", "--regs", "--slots", "--all", "--json", "--out"];
+
+/// The options of `steps`.
+static STEPS_OPTIONS: [&str; 2] = ["--check", "--counts"];
 
 /// What is said of a word: what is wrong, and what would be accepted.
 #[derive(Drop)]
@@ -69,7 +72,7 @@ fn first_advice(alloc: Global, words: &[Word]) -> Result<Advice, NoMemory> {
         None => advised(
             wrong,
             format!(in alloc;
-                "the commands are alloc, run, check, improve, refute, gen, asm, compare, sweep, import, inspect and build"
+                "the commands are alloc, run, check, improve, refute, steps, gen, asm, compare, sweep, import, inspect and build"
             ),
         ),
     }
@@ -205,6 +208,31 @@ fn refute_advice(alloc: Global, words: &[Word], place: usize) -> Result<Advice, 
     }
 }
 
+/// What is said of a word of `steps`, which has `--check` or not and then `--counts` or not.
+fn steps_advice(alloc: Global, words: &[Word], place: usize) -> Result<Advice, NoMemory> {
+    let form = "steps [--counts], or steps --check [--counts]";
+    let Some(given) = words.get(place) else {
+        return more_advice(alloc, words, place, form);
+    };
+    let known = STEPS_OPTIONS
+        .iter()
+        .any(|it| it.as_bytes() == given.as_bytes());
+    if known {
+        return more_advice(alloc, words, place, form);
+    }
+    match meant(alloc, given.as_bytes(), &STEPS_OPTIONS)? {
+        Some(near) => {
+            let word = Shown(given.as_bytes());
+            let near = Shown(near);
+            advised(
+                format!(in alloc; "there is no option `{word}`"),
+                format!(in alloc; "did you mean `{near}`?"),
+            )
+        }
+        None => more_advice(alloc, words, place, form),
+    }
+}
+
 /// What is said of words by the first place at which no command begins with them.
 fn advice_at(alloc: Global, words: &[Word], place: usize) -> Result<Advice, NoMemory> {
     let Some(first) = words.first() else {
@@ -214,6 +242,7 @@ fn advice_at(alloc: Global, words: &[Word], place: usize) -> Result<Advice, NoMe
         b"alloc" => search_advice(alloc, words, 1, place),
         b"improve" => search_advice(alloc, words, 1, place),
         b"refute" => refute_advice(alloc, words, place),
+        b"steps" => steps_advice(alloc, words, place),
         b"gen" => gen_advice(alloc, words, place),
         b"run" => more_advice(
             alloc,
