@@ -44,6 +44,10 @@ fn put_answer(
     text: &[u8],
     question: &[u8],
 ) -> Result<(), NoMemory> {
+    // (a run, whose first letter a search has too)
+    if question.starts_with(b"steps") {
+        return put_run(alloc, out, text, question);
+    }
     match question.first() {
         Some(b'p') => put_counts(alloc, out, text),
         Some(b'e') => put_end(alloc, out, text, question),
