@@ -175,6 +175,69 @@ tree 1
 O
 end
 ?steps:done>>\
+|# The report of the smallest function has a log.\
+|func f
+block e freq 1
+ret
+---
+unison 3
+function f
+model regs all slots 256 nodes 2000
+answer code
+cost 1
+bound 1
+listing 3
+frame 0
+block e
+{ jumpr r31 }
+solution 124
+16 17 18 19 20 21 22 23 24 25 26 27 31 0 0 0
+0 0 0 0 0 0 0 0 0 0 0 0 0 0 0 0
+0 0 0 0 0 0 0 0 0 0 0 0 0 0 0 0
+0 0 0 0 0 0 0 0 0 0 0 0 1 0 0 0
+0 0 0 0 0 0 0 0 0 0 0 0 0 0 0 0
+0 0 0 0 0 0 0 0 0 0 0 0 0 0 0 0
+0 0 0 0 0 0 0 0 0 0 0 0 0 0 0 0
+0 0 0 0 0 0 0 0 0 0 2 0
+tree 1
+C
+end
+?steps:done>3 17 122 1 1
+11 0 122 2 64
+.
+>\
+|func f
+block e freq 1
+ret
+---
+unison 3
+function f
+model regs all slots 256 nodes 2000
+answer code
+cost 1
+bound 1
+listing 3
+frame 0
+block e
+{ jumpr r31 }
+solution 124
+16 17 18 19 20 21 22 23 24 25 26 27 31 0 0 0
+0 0 0 0 0 0 0 0 0 0 0 0 0 0 0 0
+0 0 0 0 0 0 0 0 0 0 0 0 0 0 0 0
+0 0 0 0 0 0 0 0 0 0 0 0 1 0 0 0
+0 0 0 0 0 0 0 0 0 0 0 0 0 0 0 0
+0 0 0 0 0 0 0 0 0 0 0 0 0 0 0 0
+0 0 0 0 0 0 0 0 0 0 0 0 0 0 0 0
+0 0 0 0 0 0 0 0 0 0 2 0
+tree 1
+C
+end
+---
+3 17 122 1 1
+11 0 122 2 64
+.
+?steps --check:done>yes steps
+>\
 |# Two products and a return do not share a packet: this is told by counting alone.\
 |func m %a
 block e freq 1
