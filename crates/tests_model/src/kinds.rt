@@ -5,12 +5,14 @@ use un_alt::frame::{FrameLeave, FrameOp, FrameUse};
 use un_alt::span::Span;
 use un_base::ids::VarId;
 use un_base::memory_error::NoMemory;
+use un_counted::counted::LeastEnd;
 use un_isa::reg::Reg;
 use un_isa::table::Needs;
 use un_kinds::any::AnyProp;
 use un_kinds::make_alt::{
     FrameFields, make_chosen, make_frame, make_home, make_same, make_spaces, make_zeros,
 };
+use un_kinds::make_counted::make_counted;
 use un_kinds::make_prec::{make_before, make_below, make_inside, make_last, make_reads};
 use un_kinds::make_press::{make_across, make_live};
 use un_kinds::make_rect::{OperandFields, make_apart, make_clobber, make_operands, make_per_cycle};
@@ -59,6 +61,29 @@ fn cost(alloc: Global) -> Result<AnyProp, NoMemory> {
     };
     let ends = list(alloc, &[first, second])?;
     make_below(alloc, ends, 50)
+}
+
+/// A row of two ends that are at least so great, of blocks that are run 3 and 10 times.
+fn row(alloc: Global, first: u32, second: u32) -> Result<Items<LeastEnd>, AllocError> {
+    let first = LeastEnd {
+        end: VarId(0),
+        freq: 3,
+        least: first,
+    };
+    let second = LeastEnd {
+        end: VarId(1),
+        freq: 10,
+        least: second,
+    };
+    list(alloc, &[first, second])
+}
+
+/// Two rows under the limit 50: 4 and 2, and 2 and 5.
+fn rows(alloc: Global) -> Result<AnyProp, NoMemory> {
+    let first = row(alloc, 4, 2)?;
+    let second = row(alloc, 2, 5)?;
+    let rows = both(alloc, first, second)?;
+    make_counted(alloc, rows, 50)
 }
 
 /// A definer with its gaps.
@@ -421,6 +446,7 @@ pub(crate) fn prop(alloc: Global, kind: &[u8]) -> Result<AnyProp, NoMemory> {
         Some(b'o') => operands(alloc),
         Some(b'a') => across(alloc),
         Some(b'e') => pressed(alloc),
+        Some(b'j') => rows(alloc),
         Some(b'n') => make_across(alloc, VarId(0), 13, 12),
         Some(b'w') => make_across(alloc, VarId(0), 12, 12),
         _ => packets(alloc),

@@ -275,6 +275,19 @@ each 7 20 7 30>failed
 each 8 20 8 30>same
 # The last time that is open keeps no cycle.
 each 1 9 2,3 6>failed
+# Rows of two ends, 4 and 2, or 2 and 5, of which the first costs 3 a cycle and the second 10, together less than 50. No row may be met.
+joint 1,2,3 2,3,4>failed
+# One may: the first, the second, either.
+joint 1,4 2,3>same
+joint 1,2,3 2,5>same
+joint 1,2,3,4,5 1,2,3,4,5,6>same
+# Both may be met at ends that are great, but cost too much; one less does not.
+joint 5 5,6>failed
+joint 4,5 5,6>same
+# It takes no end away, for all that none of these is met by a row: but the last one that is open.
+joint 1,2,3,4 1,2,3,4>same
+joint 3 1,2,3,4,5>3 5
+joint 4 1,2,5,6>4 2,5
 # A call that thirteen values cross, where there is room for twelve, and one that twelve cross: whatever its cycle.
 narrow 1,2,7>failed
 wide 1,2,7>same";

@@ -19,6 +19,8 @@ mod hostile;
 #[cfg(test)]
 mod improvements;
 #[cfg(test)]
+mod least_rows;
+#[cfg(test)]
 mod limits;
 #[cfg(test)]
 mod machines;

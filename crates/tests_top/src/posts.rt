@@ -144,7 +144,8 @@ fn kind(p: &AnyProp) -> usize {
         AnyProp::Length(_) => 14,
         AnyProp::Live(_) => 15,
         AnyProp::Across(_) => 16,
-        AnyProp::Before(_) => 17,
+        AnyProp::Counted(_) => 17,
+        AnyProp::Before(_) => 18,
     }
 }
 

@@ -5,6 +5,7 @@
 use crate::ends::put_ends;
 use crate::firsts::put_first;
 use crate::hostile::put_deep;
+use crate::least_rows::put_kept;
 use crate::posts::{put_counts, put_end, put_operands};
 use crate::reports::put_altered;
 use crate::runs::{put_numbers, put_run};
@@ -36,8 +37,8 @@ pub(crate) fn number_at(text: &[u8], k: usize) -> u64 {
 }
 
 /// Appends the answer to a question about a text: of what is posted, of how rounds end, of propagators of two operands, of the least ends
-/// of blocks, of a search, of an attempt, of a first solution, of the check of a tree or of its lines, of a run over an altered report, one of a version or a deep tree, of the
-/// numbers of a report, or else of a run by words.
+/// of blocks, of rows of them, of a search, of an attempt, of a first solution, of the check of a tree or of its lines, of a run over an
+/// altered report, one of a version or a deep tree, of the numbers of a report, or else of a run by words.
 fn put_answer(
     alloc: Global,
     out: &mut Vec<u8>,
@@ -55,6 +56,7 @@ fn put_answer(
         Some(b'v') => put_verdict(alloc, out, text, question),
         Some(b'l') => put_verdict_by_lines(alloc, out, text, question),
         Some(b'b') => put_ends(alloc, out, text),
+        Some(b'k') => put_kept(alloc, out, text),
         Some(b'n') => put_numbers(alloc, out, text, question),
         Some(b'o') => put_operands(alloc, out, text),
         Some(b's') => put_solved(alloc, out, text, question),

@@ -5,7 +5,7 @@ use Rattle.un_kinds.specs.AnyProps.{constraint_of}
 use Rattle.un_kinds.specs.FixingLaws.{fix_is}
 use Rattle.un_kinds.specs.Scopes.{IsTight}
 use Rattle.un_kinds.specs.declared.any.AnyProp.{AnyProp}
-use Rattle.un_sites.specs.Befores.{all_postings_of}
+use Rattle.un_post.specs.Listed.{all_postings_of}
 use Rattle.un_post.proofs.ExactProps.{exact_props}
 use Rattle.un_post.proofs.Ready.{posted_reads, posted_grounded, posted_fails}
 use Rattle.un_post.specs.Postable.{IsPostable}

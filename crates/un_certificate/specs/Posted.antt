@@ -6,7 +6,7 @@ use Rattle.un_prop.specs.Rounds.{fix_of}
 use Rattle.un_kinds.specs.AnyProps.{constraint_of, cut_of}
 use Rattle.un_kinds.specs.Scopes.{IsTight}
 use Rattle.un_kinds.specs.declared.any.AnyProp.{AnyProp}
-use Rattle.un_sites.specs.Befores.{all_postings_of}
+use Rattle.un_post.specs.Listed.{all_postings_of}
 use Rattle.un_post.specs.Posts.{IsExact, ReadsFrom, IsGrounded, FailsWhereEmpty, fix_at}
 use Rattle.un_model.specs.Boxes.{root_of}
 

@@ -126,6 +126,13 @@ impl<P: Propagator + Drop> Engine<P> {
         )
     }
 
+    /// The propagators.
+    pub fn props(&self) -> &[P]
+        ensures { result.now ≡ self.now.props }
+    {
+        self.props.as_slice()
+    }
+
     /// The store.
     pub fn store(&self) -> &Store
         ensures { result.now ≡ self.now.store }

@@ -36,8 +36,10 @@ use Rattle.un_length.specs.Blocks.{BlockVars}
 use Rattle.un_length.specs.declared.block.Task.{Task}
 use Rattle.un_press.specs.Pressures.{LiveVars}
 use Rattle.un_press.specs.declared.live.Span.{Span}
+use Rattle.un_counted.specs.Counted.{RowsVars}
+use Rattle.un_counted.specs.declared.counted.LeastEnd.{LeastEnd}
 use Rattle.un_kinds.specs.Scopes.{IsScope, vars_in, own_var, alt_vars, end_var, op_vars, use_vars, leave_vars}
-use Rattle.un_kinds.specs.Scopes.{rectangle_vars, clobber_vars, item_vars, side_vars, task_vars, span_vars}
+use Rattle.un_kinds.specs.Scopes.{rectangle_vars, clobber_vars, item_vars, side_vars, task_vars, span_vars, least_var, row_vars}
 use Rattle.un_kinds.proofs.Rising.{among_own}
 
 -- ---- parts of lists
@@ -245,3 +247,10 @@ live_vars vs values s i d lt =
     let v = get_or values i d in
     let p = two vs (at_vars v.def) (vars_in at_vars v.uses) (each span_vars vs values (scoped vs _ s) i d lt) in
     record { of_def = p.0; of_uses = each at_vars vs v.uses p.1 }
+
+-- ---- counts
+
+pub counted_vars : (vs : List VarId) (rows : List (List LeastEnd)) → IsScope vs (vars_in row_vars rows) → RowsVars vs rows
+counted_vars vs rows s i d lt j e less =
+    let row = each row_vars vs rows (scoped vs _ s) i d lt in
+    one vs (get_or (get_or rows i d) j e).end (each least_var vs (get_or rows i d) row j e less)

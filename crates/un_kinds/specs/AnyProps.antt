@@ -28,6 +28,7 @@ use Rattle.un_slots.specs.Slots.{per_cycle_holds}
 use Rattle.un_length.specs.Blocks.{block_holds}
 use Rattle.un_length.specs.Lengths.{LengthStrong}
 use Rattle.un_press.specs.Pressures.{live_holds, across_holds}
+use Rattle.un_counted.specs.Counted.{counted_holds}
 use Rattle.un_prec.specs.contracts.before.BeforePredicate.TheImpl.Laws as before_looks
 use Rattle.un_prec.specs.contracts.before.BeforePropagator.TheImpl.Laws as before_laws
 use Rattle.un_prec.specs.contracts.reads.ReadsPredicate.TheImpl.Laws as reads_looks
@@ -64,12 +65,14 @@ use Rattle.un_press.specs.contracts.live.LivePredicate.TheImpl.Laws as live_look
 use Rattle.un_press.specs.contracts.live.LivePropagator.TheImpl.Laws as live_laws
 use Rattle.un_press.specs.contracts.across.AcrossPredicate.TheImpl.Laws as across_looks
 use Rattle.un_press.specs.contracts.across.AcrossPropagator.TheImpl.Laws as across_laws
+use Rattle.un_counted.specs.contracts.counted.CountedPredicate.TheImpl.Laws as counted_looks
+use Rattle.un_counted.specs.contracts.counted.CountedPropagator.TheImpl.Laws as counted_laws
 use Rattle.un_kinds.specs.Constraints as constraint
 use Rattle.un_kinds.specs.Constraints.{Constraint, meets}
 use Rattle.un_kinds.specs.Cuts.{cut_with}
 use Rattle.un_kinds.specs.declared.any.AnyProp.{AnyProp}
 use Rattle.un_kinds.specs.declared.any.AnyProp.TheVariants.{Before, Reads, Inside, Last, Below, Chosen, Zeros, Spaces, Same, Home}
-use Rattle.un_kinds.specs.declared.any.AnyProp.TheVariants.{Frame, Apart, Clobber, Operands, PerCycle, Length, Live, Across}
+use Rattle.un_kinds.specs.declared.any.AnyProp.TheVariants.{Frame, Apart, Clobber, Operands, PerCycle, Length, Live, Across, Counted}
 
 -- its kind and fields, without the list of its variables
 abbrev pub constraint_of : AnyProp → Constraint
@@ -91,6 +94,7 @@ constraint_of (PerCycle p) = constraint.PerCycle p.items p.horizon
 constraint_of (Length p) = constraint.Length p.block.ops p.block.arcs p.block.end p.block.horizon
 constraint_of (Live p) = constraint.Live p.values p.room p.horizon
 constraint_of (Across p) = constraint.Across p.call p.sure p.room
+constraint_of (Counted p) = constraint.Counted p.rows p.limit
 
 -- its variables, rising
 abbrev pub scope_of : AnyProp → List VarId
@@ -112,6 +116,7 @@ scope_of (PerCycle p) = p.vars
 scope_of (Length p) = p.vars
 scope_of (Live p) = p.vars
 scope_of (Across p) = p.vars
+scope_of (Counted p) = p.vars
 
 -- it holds where what it asks for is met
 abbrev pub holds_of : AnyProp → List ℕ → Bool
@@ -141,6 +146,7 @@ parts_of (PerCycle p) = one_part p.vars (per_cycle_holds p.items p.horizon)
 parts_of (Length p) = one_part p.vars (block_holds p.block.ops p.block.arcs p.block.end)
 parts_of (Live p) = one_part p.vars (live_holds p.values p.room p.horizon)
 parts_of (Across p) = one_part p.vars (across_holds p.sure p.room)
+parts_of (Counted p) = one_part p.vars (counted_holds p.rows p.limit)
 
 -- what is so of a store that it leaves as it is
 abbrev pub strong_of : AnyProp → Sets → Type 0
@@ -162,6 +168,7 @@ strong_of (PerCycle p) s = SlotsStrong p.items s
 strong_of (Length p) s = LengthStrong p.vars p.block.ops p.block.arcs p.block.end p.block.horizon s
 strong_of (Live p) s = Unit {0}
 strong_of (Across p) s = Unit {0}
+strong_of (Counted p) s = Unit {0}
 
 -- how many cycles, from 0, it counts over
 abbrev pub span_of : AnyProp → ℕ
@@ -183,6 +190,7 @@ span_of (PerCycle p) = p.horizon
 span_of (Length p) = p.block.horizon
 span_of (Live p) = 0
 span_of (Across p) = 0
+span_of (Counted p) = 0
 
 -- Its laws
 
@@ -205,6 +213,7 @@ any_looks (PerCycle p) x y same = per_cycle_looks.looks-law p x y same
 any_looks (Length p) x y same = length_looks.looks-law p x y same
 any_looks (Live p) x y same = live_looks.looks-law p x y same
 any_looks (Across p) x y same = across_looks.looks-law p x y same
+any_looks (Counted p) x y same = counted_looks.looks-law p x y same
 
 pub any_keeps : (p : AnyProp) (s : Sets) (x : List ℕ) → HasVars (scope_of p) s → NoneEmpty s → IsIn x s → holds_of p x ≡ true
     → Kept x (cut_of p s)
@@ -226,6 +235,7 @@ any_keeps (PerCycle p) s x known full there holds = per_cycle_laws.keeps-law p s
 any_keeps (Length p) s x known full there holds = length_laws.keeps-law p s x known full there holds
 any_keeps (Live p) s x known full there holds = live_laws.keeps-law p s x known full there holds
 any_keeps (Across p) s x known full there holds = across_laws.keeps-law p s x known full there holds
+any_keeps (Counted p) s x known full there holds = counted_laws.keeps-law p s x known full there holds
 
 pub any_lawful : (p : AnyProp) → Lawful (scope_of p) (cut_of p)
 any_lawful (Before p) = before_laws.lawful-law p
@@ -246,6 +256,7 @@ any_lawful (PerCycle p) = per_cycle_laws.lawful-law p
 any_lawful (Length p) = length_laws.lawful-law p
 any_lawful (Live p) = live_laws.lawful-law p
 any_lawful (Across p) = across_laws.lawful-law p
+any_lawful (Counted p) = counted_laws.lawful-law p
 
 pub any_whole : (p : AnyProp) (x : List ℕ) → holds_of p x ≡ all_meet (parts_of p) x
 any_whole (Before p) x = before_laws.whole-law p x
@@ -266,6 +277,7 @@ any_whole (PerCycle p) x = per_cycle_laws.whole-law p x
 any_whole (Length p) x = length_laws.whole-law p x
 any_whole (Live p) x = live_laws.whole-law p x
 any_whole (Across p) x = across_laws.whole-law p x
+any_whole (Counted p) x = counted_laws.whole-law p x
 
 pub any_within : (p : AnyProp) (part : Part) → Contains (parts_of p) part → AllAmong (scope_of p) part.vars
 any_within (Before p) part there = before_laws.within-law p part there
@@ -286,6 +298,7 @@ any_within (PerCycle p) part there = per_cycle_laws.within-law p part there
 any_within (Length p) part there = length_laws.within-law p part there
 any_within (Live p) part there = live_laws.within-law p part there
 any_within (Across p) part there = across_laws.within-law p part there
+any_within (Counted p) part there = counted_laws.within-law p part there
 
 pub any_forward : (p : AnyProp) (part : Part) → Contains (parts_of p) part → ChecksForward part (scope_of p) (cut_of p)
 any_forward (Before p) part there = before_laws.forward-law p part there
@@ -306,6 +319,7 @@ any_forward (PerCycle p) part there = per_cycle_laws.forward-law p part there
 any_forward (Length p) part there = length_laws.forward-law p part there
 any_forward (Live p) part there = live_laws.forward-law p part there
 any_forward (Across p) part there = across_laws.forward-law p part there
+any_forward (Counted p) part there = counted_laws.forward-law p part there
 
 pub any_strength : (p : AnyProp) (s : Sets) → HasVars (scope_of p) s → NoneEmpty s → InWords s
     → (length (scope_of p) ≡ 0 → (x : List ℕ) → holds_of p x ≡ true) → cut_of p s ≡ Some s → strong_of p s
@@ -327,3 +341,4 @@ any_strength (PerCycle p) s known full words grounded same = per_cycle_laws.stre
 any_strength (Length p) s known full words grounded same = length_laws.strength-law p s known full words grounded same
 any_strength (Live p) s known full words grounded same = live_laws.strength-law p s known full words grounded same
 any_strength (Across p) s known full words grounded same = across_laws.strength-law p s known full words grounded same
+any_strength (Counted p) s known full words grounded same = counted_laws.strength-law p s known full words grounded same

@@ -31,6 +31,8 @@ use Rattle.un_length.specs.declared.block.Precedence.{Precedence}
 use Rattle.un_length.specs.declared.block.Task.{Task}
 use Rattle.un_press.specs.Pressures.{live_holds, across_holds}
 use Rattle.un_press.specs.declared.live.Span.{Span}
+use Rattle.un_counted.specs.Counted.{counted_holds}
+use Rattle.un_counted.specs.declared.counted.LeastEnd.{LeastEnd}
 
 pub data Constraint : Type 0 where
   Before : At → Act → At → Act → ℕ → Constraint
@@ -51,6 +53,7 @@ pub data Constraint : Type 0 where
   Length : List Task → List Precedence → VarId → ℕ → Constraint
   Live : List Span → ℕ → ℕ → Constraint
   Across : VarId → ℕ → ℕ → Constraint
+  Counted : List (List LeastEnd) → ℕ → Constraint
 
 -- whether an assignment meets it
 abbrev pub meets : Constraint → List ℕ → Bool
@@ -72,6 +75,7 @@ meets (PerCycle items horizon) x = per_cycle_holds items horizon x
 meets (Length ops arcs end horizon) x = block_holds ops arcs end x
 meets (Live values room horizon) x = live_holds values room horizon x
 meets (Across call sure room) x = across_holds sure room x
+meets (Counted rows limit) x = counted_holds rows limit x
 
 -- it meets all of them
 abbrev pub AllMet : List Constraint → List ℕ → Type 0

@@ -27,8 +27,9 @@ use Rattle.un_slots.specs.Slots.{per_cycle_holds}
 use Rattle.un_length.specs.Blocks.{block_holds}
 use Rattle.un_length.specs.Lengths.{length_cut}
 use Rattle.un_press.specs.Pressures.{live_holds, across_holds}
+use Rattle.un_counted.specs.Counted.{counted_holds, counted_cut}
 use Rattle.un_kinds.specs.Constraints.{Constraint, Before, Reads, Inside, Last, Below, Chosen, Zeros, Spaces, Same, Home, Frame}
-use Rattle.un_kinds.specs.Constraints.{Apart, Clobber, Operands, PerCycle, Length, Live, Across}
+use Rattle.un_kinds.specs.Constraints.{Apart, Clobber, Operands, PerCycle, Length, Live, Across, Counted}
 
 -- the sets that it leaves, or none where it fails
 abbrev pub cut_with : Constraint → List VarId → Sets → Option Sets
@@ -56,3 +57,4 @@ cut_with (PerCycle items horizon) vs s = option_and_then (last_cut vs (per_cycle
 cut_with (Length ops arcs end horizon) vs s = option_and_then (last_cut vs (block_holds ops arcs end)) (length_cut vs ops arcs end horizon s)
 cut_with (Live values room horizon) vs s = last_cut vs (live_holds values room horizon) s
 cut_with (Across call sure room) vs s = last_cut vs (across_holds sure room) s
+cut_with (Counted rows limit) vs s = option_and_then (last_cut vs (counted_holds rows limit)) (counted_cut vs rows limit s)

@@ -7,6 +7,7 @@ use un_alt::same::Same;
 use un_alt::spaces::Spaces;
 use un_alt::zeros::Zeros;
 use un_base::ids::VarId;
+use un_counted::counted::Counted;
 use un_domains::window::Window;
 use un_length::length::Length;
 use un_prec::before::Before;
@@ -43,6 +44,7 @@ pub enum AnyProp {
     Length(Length),
     Live(Live),
     Across(Across),
+    Counted(Counted),
 }
 
 impl Predicate for AnyProp {
@@ -72,6 +74,7 @@ impl Predicate for AnyProp {
             AnyProp::Length(p) => p.reads(),
             AnyProp::Live(p) => p.reads(),
             AnyProp::Across(p) => p.reads(),
+            AnyProp::Counted(p) => p.reads(),
         }
     }
 
@@ -95,6 +98,7 @@ impl Predicate for AnyProp {
             AnyProp::Length(p) => p.test(fixed),
             AnyProp::Live(p) => p.test(fixed),
             AnyProp::Across(p) => p.test(fixed),
+            AnyProp::Counted(p) => p.test(fixed),
         }
     }
 
@@ -145,6 +149,7 @@ impl Propagator for AnyProp {
             AnyProp::Length(p) => p.prune_in(w, scratch),
             AnyProp::Live(p) => p.prune_in(w, scratch),
             AnyProp::Across(p) => p.prune_in(w, scratch),
+            AnyProp::Counted(p) => p.prune_in(w, scratch),
         }
     }
 

@@ -3,6 +3,7 @@
 
 pub mod any;
 pub mod make_alt;
+pub mod make_counted;
 pub mod make_prec;
 pub mod make_press;
 pub mod make_rect;

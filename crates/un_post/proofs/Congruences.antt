@@ -60,7 +60,7 @@ flat_each Q (xs ∷ xss) h = let r = each_append Q xs (joined xss) h in (r.0, fl
 
 -- ---- places over an edge
 
-same_term : (ops : List ExtOp) → term_of ops ≡ (let x = ending_of ops in x.term)
+pub same_term : (ops : List ExtOp) → term_of ops ≡ (let x = ending_of ops in x.term)
 same_term [] = refl
 same_term (op ∷ ops) = go op.kind (same_term ops)
   where

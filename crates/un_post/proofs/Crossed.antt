@@ -596,7 +596,7 @@ module _ (e : Ext) (o : Options) (x : List ℕ) (given : Given e o x)
         (each_of (λ (q : Placed). q.block ≡ r.block → (issue_at x q).end ≡ (issue_at x c).end) (all e o x) (λ q m same.
         ap (λ (v : VarId). slice_index x v.0) (sym (region_close r q (stands_in e o x r q mr m same)) ∙ region_close r c mc))))
 
-    wanted : Each (Wanted e o x solved c) (across true)
+    pub wanted : Each (Wanted e o x solved c) (across true)
     wanted = each_of (Wanted e o x solved c) (across true) (λ v m.
         let k = crossed_by true v m in
         record { crossing = crossed true v k; needs = wants true v k refl })

@@ -1,7 +1,7 @@
 -- What is posted for a model is met by exactly its solutions that cost less than the limit.
 use Rattle.std.proofs.Common.{ℕ, zero, suc, ◌≡◌, ◌↔◌, ◌+◌, ◌-◌, ◌<◌, ◌++◌, Bool, true, false, List, [], ◌∷◌, length, map, inl, inr}
 use Rattle.std.proofs.Common.{refl, sym, ap, subst, arith}
-use Rattle.std.specs.Prelude.{Option, slice_index, nat_eq, ◌||◌}
+use Rattle.std.specs.Prelude.{Option, Some, None, slice_index, nat_eq, nat_lt, ◌||◌, if◌then◌else◌}
 use Rattle.std.specs.List.{list_any}
 use Rattle.std.proofs.lemmas.Bool.Decides.{nat_tests}
 use Rattle.un_isa.specs.Fit.{IsFit}
@@ -17,19 +17,39 @@ use Rattle.un_model.specs.Options.{AreOptions}
 use Rattle.un_model.specs.Solutions.{InDomain, KeepsDomains}
 use Rattle.un_model.specs.Variables.{model_of}
 use Rattle.un_model.proofs.Lists.{Member}
-use Rattle.un_sites.specs.Befores.{befores_of, lengths_of, all_postings_of}
-use Rattle.un_kinds.specs.Constraints.{AllMet}
+use Rattle.un_sites.specs.Befores.{befores_of, lengths_of}
+use Rattle.un_kinds.specs.Constraints.{AllMet, Counted}
 use Rattle.un_sites.specs.Postings.{postings_of}
 use Rattle.un_sites.specs.Pressures.{pressures_of}
 use Rattle.un_model.specs.Boxes.{IsCheaper}
 use Rattle.un_sites.specs.Rooms.{rooms_of}
+use Rattle.un_rows.specs.Rows.{rows_of}
 use Rattle.un_post.proofs.Facts.{Given}
 use Rattle.un_post.proofs.Lengths.{lengths_met}
+use Rattle.un_post.proofs.Meeting.{all_met}
 use Rattle.un_post.proofs.Memory.{befores, memory, contains_member, member_contains}
 use Rattle.un_post.proofs.Posted.{all_append}
 use Rattle.un_post.proofs.Pressed.{pressures_met}
+use Rattle.un_post.proofs.Counts.{more_hold}
+use Rattle.un_post.proofs.RowMet.{row_met}
 use Rattle.un_post.proofs.Solved.{solved_by}
 use Rattle.un_post.proofs.SpaceSets.{has_run}
+use Rattle.un_post.specs.Listed.{counts_of, all_postings_of, posted_rows, unmet}
+
+-- ---- the counts of saved values
+
+counts_met : (e : Ext) (o : Options) (limit : Option ℕ) (x : List ℕ) → Given e o x
+    → IsCheaper (model_of e o) limit (record { values = x }) → AllMet (counts_of (model_of e o) limit) x
+counts_met e o None x given h = all_met x [] tt
+counts_met e o (Some most) x given h = by (nat_lt 1 (length e.blocks)) refl
+  where
+    by : (b : Bool) → nat_lt 1 (length e.blocks) ≡ b → AllMet (if b then Counted (posted_rows (model_of e o)) most ∷ [] else []) x
+    by false is = all_met x [] tt
+    by true is = all_met x (Counted (posted_rows (model_of e o)) most ∷ []) (
+      more_hold (rows_of (model_of e o)) (unmet (model_of e o)) most x
+          (row_met (model_of e o) (record { values = x }) most refl given.extended given.fit given.options is h.0 h.1),
+      tt,
+    )
 
 -- ---- of values within the domains
 
@@ -37,7 +57,8 @@ of_given : (e : Ext) (o : Options) (limit : Option ℕ) (x : List ℕ) → Given
     → IsCheaper (model_of e o) limit (record { values = x }) ↔ AllMet (all_postings_of (model_of e o) limit) x
 of_given e o limit x given =
     let m : Model = model_of e o in
-    let a = all_append x (postings_of m limit) (befores_of m ++ (rooms_of m ++ (lengths_of m ++ pressures_of m))) in
+    let a = all_append x (postings_of m limit) (counts_of m limit ++ (befores_of m ++ (rooms_of m ++ (lengths_of m ++ pressures_of m)))) in
+    let k = all_append x (counts_of m limit) (befores_of m ++ (rooms_of m ++ (lengths_of m ++ pressures_of m))) in
     let b = all_append x (befores_of m) (rooms_of m ++ (lengths_of m ++ pressures_of m)) in
     let d = all_append x (rooms_of m) (lengths_of m ++ pressures_of m) in
     let f = all_append x (lengths_of m) (pressures_of m) in
@@ -45,10 +66,11 @@ of_given e o limit x given =
       λ h.
           let s = h.0 in
           let parts = (solved s.memory).0 h in
-          a.1 (parts.0, b.1 (befores e o x given s, d.1 (parts.1, f.1 (lengths_met e o x given s, pressures_met e o x given s)))),
+          let implied = f.1 (lengths_met e o x given s, pressures_met e o x given s) in
+          a.1 (parts.0, k.1 (counts_met e o limit x given h, b.1 (befores e o x given s, d.1 (parts.1, implied)))),
       λ h.
           let u = a.0 h in
-          let v = b.0 u.1 in
+          let v = b.0 (k.0 u.1).1 in
           let w = d.0 v.1 in
           (solved (memory e o x given v.0)).1 (u.0, w.0),
     )

@@ -11,8 +11,8 @@ use Rattle.un_model.specs.declared.model.Model.{Model}
 use Rattle.un_model.specs.Options.{AreOptions}
 use Rattle.un_model.specs.Variables.{IsModel, model_of}
 use Rattle.un_kinds.specs.AnyProps.{constraint_of}
-use Rattle.un_sites.specs.Befores.{all_postings_of}
 use Rattle.un_kinds.specs.Constraints.{Constraint, AllMet, meets}
+use Rattle.un_post.specs.Listed.{all_postings_of}
 use Rattle.un_post.specs.Posts.{IsExact}
 use Rattle.un_kinds.specs.declared.any.AnyProp.{AnyProp}
 use Rattle.un_post.proofs.Exact.{exact_in}

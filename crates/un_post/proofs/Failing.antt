@@ -23,8 +23,8 @@ use Rattle.un_prop.specs.Fixes.{Known, order_free}
 use Rattle.un_prop.specs.Lawful.{Lawful}
 use Rattle.un_prop.specs.Rounds.{fix_of}
 use Rattle.un_bound.specs.Relaxations.{Times, IsValue, IsRelaxed, AreRelaxed, IsMemberUnder}
-use Rattle.un_sites.specs.Befores.{all_postings_of}
 use Rattle.un_kinds.specs.Constraints.{Constraint}
+use Rattle.un_post.specs.Listed.{all_postings_of}
 use Rattle.un_post.specs.Strength.{Strong}
 use Rattle.un_post.proofs.Meeting.{all_each}
 use Rattle.un_post.proofs.Relaxed.{has_member}

@@ -81,7 +81,7 @@ ended_by Enter end u v x t h = absurd (cc t)
 ended_by Leave end u v x t h = absurd (cc t)
 
 -- the value of its variable is its time
-timed_by : (kind : ExtKind) (end : VarId) (v : ℕ) (x : List ℕ) → is_task kind ≡ true
+pub timed_by : (kind : ExtKind) (end : VarId) (v : ℕ) (x : List ℕ) → is_task kind ≡ true
     → slice_index x (var_in (time_by end kind (var_if (has_cycle kind) v))).0 ≡ at_value (time_by end kind (var_if (has_cycle kind) v)) x
 timed_by Out end v x t = refl
 timed_by (Body so) end v x t = refl
@@ -95,7 +95,7 @@ timed_by Enter end v x t = absurd (cc t)
 timed_by Leave end v x t = absurd (cc t)
 
 -- it takes what its instruction takes
-needs_as : (t : Table) (r : Resource) (kind : ExtKind) (n : ℕ) → is_task kind ≡ true → is_out kind ≡ false
+pub needs_as : (t : Table) (r : Resource) (kind : ExtKind) (n : ℕ) → is_task kind ≡ true → is_out kind ≡ false
     → need_of r (needs_by t (instruction_of kind 0)) ≡ share_of t r (instruction_of kind n)
 needs_as t r Out n k f = absurd (cc f)
 needs_as t r (Body so) n k f = refl

@@ -7,10 +7,14 @@ pub mod CallCounts
 pub mod CallOrder
 pub mod Choices
 pub mod Congruences
+pub mod Counts
 pub mod Crossed
 pub mod Crowded
 pub mod Cycles
+pub mod DraftCalls
+pub mod Drafted
 pub mod Ends
+pub mod EnterLeave
 pub mod Exact
 pub mod ExactProps
 pub mod Facts
@@ -31,6 +35,7 @@ pub mod Lowering
 pub mod Meeting
 pub mod Memory
 pub mod ModelDomains
+pub mod NameDrafts
 pub mod NoSharing
 pub mod OfPlaces
 pub mod OfRooms
@@ -48,7 +53,10 @@ pub mod Ready
 pub mod Regions
 pub mod RegisterBounds
 pub mod Relaxed
+pub mod RoomBeside
 pub mod RoomOfBlocks
+pub mod RowMet
+pub mod SavedDrafts
 pub mod SavedLists
 pub mod Slotted
 pub mod Solved

@@ -3,7 +3,7 @@ use Rattle.std.proofs.Common.{ℕ, zero, suc, ◌≡◌, ◌+◌, ◌-◌, ◌<�
 use Rattle.std.proofs.Common.{[], ◌∷◌, ◌++◌, length, map, filter, take}
 use Rattle.std.proofs.Common.{inl, inr, refl, sym, ap, subst, arith, All}
 use Rattle.std.specs.Prelude.{Option, Some, None, IfSome, slice_get, slice_index, nat_eq, ◌||◌, if◌then◌else◌, sum_by}
-use Rattle.std.specs.List.{range_with_len, AllZip}
+use Rattle.std.specs.List.{range_with_len}
 use Rattle.std.specs.Option.{option_map, option_to_list}
 use Rattle.std.proofs.lemmas.Bool.Decides.{nat_tests}
 use Rattle.std.proofs.lemmas.List.{length-append, length-map}

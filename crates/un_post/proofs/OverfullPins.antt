@@ -5,7 +5,7 @@ use Rattle.un_base.specs.declared.ids.VarId.{VarId}
 use Rattle.un_domains.specs.Sets.{Sets, set_at}
 use Rattle.un_prop.specs.declared.act.At.TheVariants.{Var}
 use Rattle.un_press.specs.declared.live.Span.{Span}
-use Rattle.un_kinds.specs.Constraints.{Constraint, Live, Across}
+use Rattle.un_kinds.specs.Constraints.{Live, Across}
 use Rattle.un_kinds.specs.Scopes.{vars_of}
 use Rattle.un_post.specs.Posts.{AreSingle, IsOverfull}
 

@@ -2,7 +2,7 @@
 -- the largest horizon.
 use Rattle.std.proofs.Common.{ℕ, zero, suc, ◌≡◌, ◌+◌, ◌<◌, ◌≤◌, ◌^◌, Bool, true, false, List, [], ◌∷◌, ◌++◌, length, map, fold, max}
 use Rattle.std.proofs.Common.{inl, inr, refl, sym, ap, ◌∙◌, subst, arith}
-use Rattle.std.specs.Prelude.{Option, Some, None, slice_get, ◌==◌}
+use Rattle.std.specs.Prelude.{Option, Some, None, slice_get, nat_lt, ◌==◌, if◌then◌else◌}
 use Rattle.std.specs.List.{range_with_len, AllZip}
 use Rattle.std.specs.Option.{option_to_list}
 use Rattle.un_base.specs.declared.ids.TempId.{TempId}
@@ -45,13 +45,13 @@ use Rattle.un_prop.specs.Acts.{at_vars}
 use Rattle.un_alt.specs.declared.frame.FrameLeave.{FrameLeave}
 use Rattle.un_prec.specs.declared.below.Weighted.{Weighted}
 use Rattle.un_sites.specs.Befores.{place_or, place_with, arc_before, befores_in, befores_of, known_befores, length_in, lengths_of}
-use Rattle.un_sites.specs.Befores.{all_postings_of}
-use Rattle.un_kinds.specs.Constraints.{Constraint}
+use Rattle.un_kinds.specs.Constraints.{Constraint, Counted}
 use Rattle.un_sites.specs.Places.{Place, Definer, time_by, block_places, places_of, definer_by, definer_of, definers_of}
 use Rattle.un_sites.specs.Postings.{over_places, of_place, last_place, congruence, over_edge, edges_of}
 use Rattle.un_sites.specs.Postings.{with_kind, leaves_in, frame_by, frame_of}
 use Rattle.un_sites.specs.Postings.{ends_by, limit_of, postings_of}
 use Rattle.un_sites.specs.Pressures.{block_room, registers_among, pressure_in, pressures_of}
+use Rattle.un_post.specs.Listed.{counts_of, all_postings_of, posted_rows}
 use Rattle.un_post.specs.Posts.{largest_horizon}
 use Rattle.un_sites.specs.Rooms.{apart_in, aparts_of, spared_in, spared_at, arcs_or, clobbers_of, packets_in, packets_of, twos_in, twos_of}
 use Rattle.un_sites.specs.Rooms.{rooms_of, temps_in}
@@ -63,7 +63,8 @@ use Rattle.un_post.proofs.Meeting.{joined_each, zip_each}
 use Rattle.un_post.proofs.Memory.{member_contains, arcs_by_regions}
 use Rattle.un_post.proofs.Placing.{place_of, places_are, place_here}
 use Rattle.un_post.proofs.Reading.{IsSound, PlaceIn, DefinerIn, MayBe, Within, OperandsIn, no_place_in, get_in, place_are, last_in}
-use Rattle.un_post.proofs.Reading.{Timed}
+use Rattle.un_post.proofs.Reading.{Timed, sound}
+use Rattle.un_post.proofs.Counts.{counts_within, counts_some}
 use Rattle.un_post.proofs.Reading.{same_are, apart_are, spared_are, twos_are, leaves_are, frame_are}
 use Rattle.un_post.proofs.Reading.{arc_are, packet_are, length_are, below_are, joined_places}
 use Rattle.un_post.proofs.ReadingPressures.{pressure_are}
@@ -329,6 +330,17 @@ module _ (e : Ext) (o : Options) (extended : IsExtended e) where
       let ends = ends_by e.blocks (blocks_vars 0 e.blocks) in
       (below_are n pos most ends l (ends_in n 0 e.blocks (omega arith)) (ends_some e.blocks good.entry), tt)
 
+  counts_ok : (limit : Option ℕ) → Each IsOk (counts_of m limit)
+  counts_ok None = tt
+  counts_ok (Some l) = by (nat_lt 1 (length e.blocks)) refl
+    where
+      by : (b : Bool) → nat_lt 1 (length e.blocks) ≡ b → Each IsOk (if b then Counted (posted_rows m) l ∷ [] else [])
+      by false is = tt
+      by true is = (
+        sound n pos most (Counted (posted_rows m) l) (counts_within e o n pos (omega arith)) (counts_some m) refl,
+        tt,
+      )
+
   arcs_ok : (r : Region) → Member r (blocks e o []) → (let owner = r.owner in
       Each IsOk (befores_in the_places (block_arcs e.table (blocks_temps 0 0 e.blocks) r.number owner.ops)))
   arcs_ok r mr =
@@ -426,11 +438,12 @@ module _ (e : Ext) (o : Options) (extended : IsExtended e) where
   all_sound limit =
       let edges = over_blocks (edges_of e.blocks the_definers) 0 0 e.blocks (blocks_vars 0 e.blocks) in
       let frame = frame_of m the_definers the_places in
-      join (postings_of m limit) (befores_of m ++ (rooms_of m ++ (lengths_of m ++ pressures_of m)))
+      join (postings_of m limit) (counts_of m limit ++ (befores_of m ++ (rooms_of m ++ (lengths_of m ++ pressures_of m))))
       (join (over_places (of_place e.table o.slots the_definers) m) (edges ++ (frame ++ limit_of m limit)) of_places_ok
       (join edges (frame ++ limit_of m limit) edges_ok (join frame (limit_of m limit) frame_ok (limit_ok limit))))
+      (join (counts_of m limit) (befores_of m ++ (rooms_of m ++ (lengths_of m ++ pressures_of m))) (counts_ok limit)
       (join (befores_of m) (rooms_of m ++ (lengths_of m ++ pressures_of m)) befores_ok
       (join (rooms_of m) (lengths_of m ++ pressures_of m)
       (join (aparts_of m) (clobbers_of m ++ (packets_of m ++ twos_of m)) aparts_ok
       (join (clobbers_of m) (packets_of m ++ twos_of m) clobbers_ok
-      (join (packets_of m) (twos_of m) packets_ok twos_ok))) (join (lengths_of m) (pressures_of m) lengths_ok pressures_ok)))
+      (join (packets_of m) (twos_of m) packets_ok twos_ok))) (join (lengths_of m) (pressures_of m) lengths_ok pressures_ok))))

@@ -1,5 +1,5 @@
 -- What is posted of pressure reads variables of the store alone, and holds where it reads none.
-use Rattle.std.proofs.Common.{ℕ, ◌≡◌, ◌<◌, ◌≤◌, Bool, true, false, cond, List, [], ◌∷◌, ◌++◌, length, map, filter, refl, ap, ◌∙◌, arith}
+use Rattle.std.proofs.Common.{ℕ, ◌≡◌, ◌<◌, Bool, true, false, cond, List, [], ◌∷◌, ◌++◌, length, map, filter, refl, ap, ◌∙◌, arith}
 use Rattle.std.specs.Prelude.{Option, Some, None, nat_le, nat_lt, ◌&&◌, ◌||◌}
 use Rattle.std.specs.List.{list_any}
 use Rattle.std.proofs.lemmas.Bool.Decides.{nat_tests}
@@ -15,14 +15,13 @@ use Rattle.un_prop.specs.declared.act.At.{At}
 use Rattle.un_press.specs.Pressures.{is_live, live_holds}
 use Rattle.un_press.specs.PressureLaws.{fits_holds}
 use Rattle.un_press.specs.declared.live.Span.{Span}
-use Rattle.un_kinds.specs.Constraints.{Constraint, meets}
-use Rattle.un_kinds.specs.Scopes.{vars_of, vars_in, span_vars}
+use Rattle.un_kinds.specs.Scopes.{vars_in, span_vars}
 use Rattle.un_sites.specs.Crossings.{reads_value}
 use Rattle.un_sites.specs.Places.{Place, time_by, time_of}
 use Rattle.un_sites.specs.Postings.{with_kind}
 use Rattle.un_sites.specs.Pressures.{span_of, own_spans, spans_in, live_by, across_by, pressure_by}
 use Rattle.un_post.proofs.Meeting.{joined_each}
-use Rattle.un_post.proofs.Reading.{IsSound, Sound, PlaceIn, Within, each_in, two_in, time_in, or_in, sound}
+use Rattle.un_post.proofs.Reading.{IsSound, PlaceIn, Within, each_in, two_in, time_in, or_in, sound}
 
 -- ---- times without a variable are 0, so that no use is after a cycle
 

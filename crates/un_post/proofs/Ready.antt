@@ -26,10 +26,11 @@ use Rattle.un_prop.specs.Fixes.{Known, order_free}
 use Rattle.un_prop.specs.Looks.{InWords}
 use Rattle.un_prop.specs.Rounds.{HasVars}
 use Rattle.un_kinds.specs.AnyProps.{constraint_of, scope_of, cut_of, strong_of, span_of, any_lawful, any_strength}
-use Rattle.un_sites.specs.Befores.{befores_of, lengths_of, all_postings_of}
+use Rattle.un_sites.specs.Befores.{befores_of, lengths_of}
 use Rattle.un_sites.specs.Postings.{postings_of}
 use Rattle.un_sites.specs.Pressures.{pressures_of}
 use Rattle.un_sites.specs.Rooms.{rooms_of}
+use Rattle.un_post.specs.Listed.{counts_of, all_postings_of}
 use Rattle.un_post.specs.Posts.{largest_horizon, ReadsFrom, IsGrounded, SpansAtMost, FailsWhereEmpty, FailsWhereOverfull}
 use Rattle.un_kinds.specs.Constraints.{Constraint}
 use Rattle.un_kinds.specs.Scopes.{IsScope, IsTight, vars_of}
@@ -37,7 +38,7 @@ use Rattle.un_post.specs.Strength.{Strong}
 use Rattle.un_kinds.specs.declared.any.AnyProp.{AnyProp}
 use Rattle.un_kinds.specs.declared.any.AnyProp.TheVariants.{Before, Reads, Inside, Last, Below as BelowProp, Chosen}
 use Rattle.un_kinds.specs.declared.any.AnyProp.TheVariants.{Zeros, Spaces, Same, Home}
-use Rattle.un_kinds.specs.declared.any.AnyProp.TheVariants.{Frame, Apart, Clobber, Operands, PerCycle, Length, Live, Across}
+use Rattle.un_kinds.specs.declared.any.AnyProp.TheVariants.{Frame, Apart, Clobber, Operands, PerCycle, Length, Live, Across, Counted}
 use Rattle.un_post.proofs.Failing.{each_stable, rounds_fail}
 use Rattle.un_post.proofs.Meeting.{all_each}
 use Rattle.un_post.proofs.Memory.{contains_member}
@@ -83,6 +84,7 @@ span_is (PerCycle p) = refl
 span_is (Length p) = refl
 span_is (Live p) = refl
 span_is (Across p) = refl
+span_is (Counted p) = refl
 
 strong_as : (p : AnyProp) (s : Sets) → strong_of p s → Strong s (constraint_of p)
 strong_as (Before p) s h = h
@@ -103,6 +105,7 @@ strong_as (PerCycle p) s h = tt
 strong_as (Length p) s h = tt
 strong_as (Live p) s h = tt
 strong_as (Across p) s h = tt
+strong_as (Counted p) s h = tt
 
 -- ---- those of a model
 
@@ -168,10 +171,11 @@ module _ (e : Ext) (o : Options) (limit : Option ℕ) (ps : List AnyProp) (exten
   asked c mc =
       let m = model_of e o in
       member_map_of constraint_of ps c (subst (Member c) (sym asks)
-      (member_append_right (postings_of m limit) (befores_of m ++ (rooms_of m ++ (lengths_of m ++ pressures_of m))) c
+      (member_append_right (postings_of m limit) (counts_of m limit ++ (befores_of m ++ (rooms_of m ++ (lengths_of m ++ pressures_of m)))) c
+      (member_append_right (counts_of m limit) (befores_of m ++ (rooms_of m ++ (lengths_of m ++ pressures_of m))) c
       (member_append_right (befores_of m) (rooms_of m ++ (lengths_of m ++ pressures_of m)) c
       (member_append_right (rooms_of m) (lengths_of m ++ pressures_of m) c
-      (member_append_right (lengths_of m) (pressures_of m) c mc)))))
+      (member_append_right (lengths_of m) (pressures_of m) c mc))))))
 
   overfull : FailsWhereOverfull (model_of e o) (map values_of (model_of e o).domains) ps
   overfull = unfold FailsWhereOverfull in λ s c below live there full.

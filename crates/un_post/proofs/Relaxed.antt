@@ -43,13 +43,14 @@ use Rattle.un_bound.specs.Choices.{IsKnown, AreKnown, AllKnown}
 use Rattle.un_bound.specs.Relaxations.{Times, IsValue, InOwnSet, IsRelaxed, AreRelaxed, times_cost, IsMember, IsMemberUnder}
 use Rattle.un_bound.specs.Timings.{IsTimed, IsKept}
 use Rattle.un_bound.proofs.Knowns.{known_model}
-use Rattle.un_sites.specs.Befores.{arc_before, befores_in, befores_of, lengths_of, all_postings_of}
+use Rattle.un_sites.specs.Befores.{arc_before, befores_in, befores_of, lengths_of}
 use Rattle.un_kinds.specs.Constraints.{Constraint, AllMet}
 use Rattle.un_sites.specs.Places.{Place, act_of, places_of, definers_of, asked_by}
 use Rattle.un_sites.specs.Postings.{over_places, of_place, of_operand, zeros_of, issue_by, issues_in, results_in, edges_of, frame_of}
 use Rattle.un_sites.specs.Postings.{limit_of, postings_of}
 use Rattle.un_sites.specs.Pressures.{pressures_of}
 use Rattle.un_sites.specs.Rooms.{rooms_of}
+use Rattle.un_post.specs.Listed.{counts_of, all_postings_of}
 use Rattle.un_post.specs.Strength.{is_timing, Strong}
 use Rattle.un_post.proofs.Blocks.{blocks, in_all}
 use Rattle.un_post.proofs.Exact.{of_domains}
@@ -351,12 +352,14 @@ module _ (e : Ext) (o : Options) (limit : Option ℕ) (s : Sets) where
       let edges = over_blocks (edges_of e.blocks (definers_of m)) 0 0 e.blocks m.blocks in
       let frame = frame_of m (definers_of m) (places_of m) in
       let ops = over_places (of_place e.table o.slots (definers_of m)) m in
-      let whole = each_append (Strong s) (postings_of m limit) (befores_of m ++ (rooms_of m ++ (lengths_of m ++ pressures_of m)))
+      let rest = befores_of m ++ (rooms_of m ++ (lengths_of m ++ pressures_of m)) in
+      let whole = each_append (Strong s) (postings_of m limit) (counts_of m limit ++ rest)
       (each_all (Strong s) (all_postings_of m limit) strong) in
+      let behind = each_append (Strong s) (counts_of m limit) rest whole.1 in
       let first = each_append (Strong s) ops (edges ++ (frame ++ limit_of m limit)) whole.0 in
       let second = each_append (Strong s) edges (frame ++ limit_of m limit) first.1 in
       let third = each_append (Strong s) frame (limit_of m limit) second.1 in
-      let arcs = each_append (Strong s) (befores_of m) (rooms_of m ++ (lengths_of m ++ pressures_of m)) whole.1 in
+      let arcs = each_append (Strong s) (befores_of m) (rooms_of m ++ (lengths_of m ++ pressures_of m)) behind.1 in
       let issues = each_of (λ q. Met x (issues_in (place_of q))) (all e o x) (λ q n.
       kept_met (issues_in (place_of q)) (timing_issues (place_of q)) (each_member _ (all e o x) q (kept_issues first.0) n)) in
       let met = all_met x (befores_of m) (kept_met (befores_of m) timing_befores arcs.0) in

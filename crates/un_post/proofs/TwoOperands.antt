@@ -2,14 +2,12 @@
 -- the operation's, so that they have different registers.
 use Rattle.std.proofs.Common.{ℕ, suc, ◌≡◌, ◌+◌, ◌-◌, ◌<◌, ◌≤◌, Bool, true, false, List, [], ◌∷◌, inl, inr, refl, sym, ap}
 use Rattle.std.proofs.Common.{◌∙◌, subst, arith, eq-eqb}
-use Rattle.std.specs.Prelude.{Option, Some, None, not, is_some, ◌||◌, ◌&&◌, nat_eq, slice_get, slice_index, if◌then◌else◌}
+use Rattle.std.specs.Prelude.{Option, Some, not, is_some, ◌||◌, ◌&&◌, nat_eq, slice_get, slice_index, if◌then◌else◌}
 use Rattle.std.specs.Option.{option_map}
 use Rattle.std.proofs.lemmas.Bool.Decides.{nat_tests}
 use Rattle.un_base.specs.declared.ids.TempId.{TempId}
 use Rattle.un_base.specs.declared.ids.VarId.{VarId}
-use Rattle.un_isa.specs.Fit.{IsFit}
 use Rattle.un_isa.specs.declared.op.Op.{Op}
-use Rattle.un_isa.specs.declared.table.Table.{Table}
 use Rattle.un_ir.specs.Linear.{first_of}
 use Rattle.un_ir.specs.Extended.{temp, carried, IsGoodKind, IsSourceOp}
 use Rattle.un_ir.specs.declared.function.SrcOp.{SrcOp}

@@ -1,3 +1,4 @@
+pub mod Listed
 pub mod Lowered
 pub mod Postable
 pub mod Posts

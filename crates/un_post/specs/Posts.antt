@@ -15,8 +15,8 @@ use Rattle.un_kinds.specs.Constraints.{Constraint, Live, Across, meets}
 use Rattle.un_kinds.specs.Fixing.{fix_by}
 use Rattle.un_kinds.specs.Scopes.{vars_of}
 use Rattle.un_kinds.specs.declared.any.AnyProp.{AnyProp}
-use Rattle.un_sites.specs.Befores.{all_postings_of}
 use Rattle.un_sites.specs.Pressures.{pressures_of}
+use Rattle.un_post.specs.Listed.{all_postings_of}
 
 -- each propagator holds
 abbrev pub AllHold : List AnyProp → List ℕ → Type 0

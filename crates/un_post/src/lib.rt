@@ -3,5 +3,6 @@
 
 pub mod lower;
 pub mod post;
+mod post_counts;
 mod post_parts;
 pub mod post_store;

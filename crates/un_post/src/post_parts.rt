@@ -1,14 +1,16 @@
 //! What is posted for a model, part by part.
 
 ghost use Rattle.std.specs.Prelude.{◌≡◌, ◌+◌, ◌++◌, IfOk, OnOk, length, map};
-ghost use Rattle.un_sites.specs.Befores.{all_postings_of, lengths_of};
+ghost use Rattle.un_sites.specs.Befores.{lengths_of};
 ghost use Rattle.un_sites.specs.Places.{definers_of, places_of};
 ghost use Rattle.un_sites.specs.Postings.{postings_of};
 ghost use Rattle.un_sites.specs.Pressures.{pressures_of};
 ghost use Rattle.un_sites.specs.Rooms.{rooms_of};
 ghost use Rattle.un_sites.specs.Sites.{place_of, definers_in};
+ghost use Rattle.un_post.specs.Listed.{all_postings_of};
 ghost use Rattle.un_post.specs.Lowered.{limit_place};
 
+use crate::post_counts::post_counts;
 use un_base::memory_error::NoMemory;
 use un_kinds::props::Props;
 use un_model::model::Model;
@@ -85,7 +87,7 @@ fn post_implied(
 }
 
 /// All that is posted for a model, of which these are the tables. Answers the place of the limit's propagator, or where it would stand.
-#[tactic(auto, using(un_kinds::proofs::Appends::four_added))]
+#[tactic(auto, using(un_kinds::proofs::Appends::five_added))]
 pub fn post_each(
     props: &mut Props,
     m: &Model,
@@ -99,6 +101,7 @@ pub fn post_each(
     ensures place { IfOk result (λ at. at ≡ length props.old + limit_place m.now) }
 {
     let at = post_single(props, m, limit, sites, spots)?;
+    post_counts(props, m, limit, sites, spots)?;
     post_arcs(props, m, spots)?;
     post_rooms(props, m, sites, spots)?;
     post_implied(props, m, sites, spots)?;

@@ -2,6 +2,7 @@ pub mod After
 pub mod CallWalks
 pub mod Gathering
 pub mod Greatest
+pub mod Knowing
 pub mod Marking
 pub mod Pairing
 pub mod Saving

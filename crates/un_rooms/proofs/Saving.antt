@@ -1,5 +1,5 @@
 -- The saved values of a block, and the edges between blocks, as loops find them.
-use Rattle.std.proofs.Common.{ℕ, suc, ◌≡◌, ◌+◌, ◌-◌, ◌<◌, ◌≤◌, Bool, true, false, List, [], ◌∷◌, ◌++◌, drop, length, sym, ap, ◌∙◌}
+use Rattle.std.proofs.Common.{ℕ, suc, ◌≡◌, ◌+◌, ◌-◌, ◌<◌, ◌≤◌, Bool, true, List, [], ◌∷◌, ◌++◌, drop, length, refl, sym, ap, ◌∙◌}
 use Rattle.std.proofs.Common.{append_assoc, map, arith}
 use Rattle.std.proofs.lemmas.List.{set_past}
 use Rattle.std.specs.Prelude.{Some, fold, slice_get, slice_set, ◌&&◌, ◌==◌, if◌then◌else◌}
@@ -11,68 +11,36 @@ use Rattle.un_ir.specs.declared.extended.Operand.{Operand}
 use Rattle.un_model.specs.Pairs.{joined, places_from}
 use Rattle.un_model.specs.declared.model.BlockVars.{BlockVars}
 use Rattle.un_model.specs.declared.model.Model.{Model}
-use Rattle.un_model.proofs.Lists.{get_below}
-use Rattle.un_model.proofs.Steps.{drop_at, drop_past}
+use Rattle.un_model.proofs.Steps.{drop_at}
+use Rattle.un_saved.specs.Saved.{end_operands as these_operands, read_alone as read_these, keeps_places as keeps_these}
 use Rattle.un_kinds.specs.Constraints.{Constraint}
 use Rattle.un_sites.specs.Befores.{known_befores, length_in}
 use Rattle.un_sites.specs.Lengths.{length_by}
 use Rattle.un_sites.specs.Places.{Place, block_places, definers_of}
 use Rattle.un_sites.specs.Pressures.{block_room, registers_among}
 use Rattle.un_sites.specs.Rooms.{arcs_or}
-use Rattle.un_sites.specs.Saved.{end_operands, reads_alone, read_alone, edges_between, marked_over, marked_after, crowded_of, owed_by}
+use Rattle.un_sites.specs.Saved.{saved_in, end_operands, reads_alone, read_alone, keeps_places}
+use Rattle.un_sites.specs.Saved.{edges_between, marked_over, marked_after, crowded_of, owed_by}
 use Rattle.un_sites.specs.Sites.{place_of}
 use Rattle.un_sites.specs.declared.edges.Accesses.{Accesses}
 use Rattle.un_sites.specs.declared.edges.Edge.{Edge}
 use Rattle.un_sites.specs.declared.sites.Spot.{Spot}
 
--- ---- what a block's end reads
+-- ---- the saved values of a block, in the words of un_saved
 
-end_first : (ops : List ExtOp) (k : ℕ) (op : ExtOp) (t : Bool) → slice_get ops k ≡ Some op → t ≡ is_out op.kind
-    → end_operands (drop k ops) ≡ (if t then op.operands else end_operands (drop (k + 1) ops))
-end_first ops k op t at h =
-    ap end_operands (drop_at ops k op at)
-    ∙ ap (λ (b : Bool). if b then op.operands else end_operands (drop (k + 1) ops)) (sym h)
+ends_same : (ops : List ExtOp) → these_operands ops ≡ end_operands ops
+ends_same [] = refl
+ends_same (op ∷ ops) = ap (λ (xs : List Operand). if is_out op.kind then op.operands else xs) (ends_same ops)
 
-pub end_found : (ops : List ExtOp) (k : ℕ) (op : ExtOp) (t : Bool) → slice_get ops k ≡ Some op → t ≡ is_out op.kind → t ≡ true
-    → end_operands (drop k ops) ≡ end_operands ops → op.operands ≡ end_operands ops
-end_found ops k op t at h e so =
-    ap (λ (b : Bool). if b then op.operands else end_operands (drop (k + 1) ops)) (sym e) ∙ sym (end_first ops k op t at h) ∙ so
+alone_same : (ts : List TempId) (xs : List Operand) → read_these ts xs ≡ read_alone ts xs
+alone_same [] xs = refl
+alone_same (t ∷ ts) [] = refl
+alone_same (t ∷ ts) (x ∷ xs) = ap (λ (b : Bool). reads_alone t x && b) (alone_same ts xs)
 
-pub end_on : (ops : List ExtOp) (k : ℕ) (op : ExtOp) (t : Bool) → slice_get ops k ≡ Some op → t ≡ is_out op.kind → t ≡ false
-    → end_operands (drop k ops) ≡ end_operands ops → end_operands (drop (k + 1) ops) ≡ end_operands ops
-end_on ops k op t at h e so =
-    ap (λ (b : Bool). if b then op.operands else end_operands (drop (k + 1) ops)) (sym e) ∙ sym (end_first ops k op t at h) ∙ so
-
--- ---- what is read alone
-
-alone_first : (ts : List TempId) (xs : List Operand) (i : ℕ) (t : TempId) (x : Operand) → slice_get ts i ≡ Some t → slice_get xs i ≡ Some x
-    → read_alone (drop i ts) (drop i xs) ≡ (reads_alone t x && read_alone (drop (i + 1) ts) (drop (i + 1) xs))
-alone_first ts xs i t x at here =
-    ap (λ us. read_alone us (drop i xs)) (drop_at ts i t at)
-    ∙ ap (λ ys. read_alone (t ∷ drop (i + 1) ts) ys) (drop_at xs i x here)
-
-pub alone_on : (ts : List TempId) (xs : List Operand) (i : ℕ) (t : TempId) (x : Operand) (whole : Bool) → slice_get ts i ≡ Some t
-    → slice_get xs i ≡ Some x → reads_alone t x ≡ true → read_alone (drop i ts) (drop i xs) ≡ whole
-    → read_alone (drop (i + 1) ts) (drop (i + 1) xs) ≡ whole
-alone_on ts xs i t x whole at here reads h =
-    ap (λ (b : Bool). b && read_alone (drop (i + 1) ts) (drop (i + 1) xs)) (sym reads) ∙ sym (alone_first ts xs i t x at here) ∙ h
-
-pub not_alone : (ts : List TempId) (xs : List Operand) (i : ℕ) (t : TempId) (x : Operand) (whole : Bool) → slice_get ts i ≡ Some t
-    → slice_get xs i ≡ Some x → reads_alone t x ≡ false → read_alone (drop i ts) (drop i xs) ≡ whole → false ≡ whole
-not_alone ts xs i t x whole at here other h =
-    ap (λ (b : Bool). b && read_alone (drop (i + 1) ts) (drop (i + 1) xs)) (sym other) ∙ sym (alone_first ts xs i t x at here) ∙ h
-
--- where an operand is missing
-pub none_alone : (ts : List TempId) (xs : List Operand) (i : ℕ) (whole : Bool) → i < length ts → length xs ≤ i
-    → read_alone (drop i ts) (drop i xs) ≡ whole → false ≡ whole
-none_alone ts xs i whole lt le h =
-    let t = get_below ts i lt in
-    sym (ap (λ us. read_alone us (drop i xs)) (drop_at ts i t.0 t.1)
-    ∙ ap (λ ys. read_alone (t.0 ∷ drop (i + 1) ts) ys) (drop_past i xs le)) ∙ h
-
-pub all_alone : (ts : List TempId) (xs : List Operand) (i : ℕ) (whole : Bool) → length ts ≤ i → read_alone (drop i ts) (drop i xs) ≡ whole
-    → true ≡ whole
-all_alone ts xs i whole le h = sym (ap (λ us. read_alone us (drop i xs)) (drop_past i ts le)) ∙ h
+pub keeps_same : (b : ExtBlock) → keeps_these b ≡ keeps_places b
+keeps_same b =
+    alone_same (saved_in b) (drop (length b.live_out) (these_operands b.ops))
+    ∙ ap (λ (xs : List Operand). read_alone (saved_in b) (drop (length b.live_out) xs)) (ends_same b.ops)
 
 -- ---- what is added for each place of a list, as far as a loop has come
 

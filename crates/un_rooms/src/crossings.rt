@@ -166,7 +166,7 @@ fn loose_by<'a>(
 }
 
 /// Those of the source's operations that are neither ahead of a call nor the call.
-fn loose<'a>(
+pub(crate) fn loose<'a>(
     alloc: Global,
     reach: Reach,
     arcs: &[Arc],

@@ -10,6 +10,8 @@ mod carried;
 mod crossings;
 mod crowds;
 mod demands;
+mod known_calls;
+pub mod knowns;
 pub mod post_aparts;
 pub mod post_clobbers;
 pub mod post_lengths;

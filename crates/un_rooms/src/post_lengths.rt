@@ -141,7 +141,7 @@ fn known_block(
 }
 
 /// The operations of block `b`, of which the first has the number `first`, with the order among them.
-fn block_at(
+pub(crate) fn block_at(
     alloc: Global,
     m: &Model,
     crowds: &Crowds,

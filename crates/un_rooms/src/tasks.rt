@@ -28,7 +28,7 @@ use un_sites::edges::Accesses;
 use un_sites::sites::Spot;
 
 /// The variable of a time; a number has none.
-fn var_in(time: At) -> VarId
+pub(crate) fn var_in(time: At) -> VarId
     ensures { result ≡ var_in time }
 {
     match time {
@@ -118,7 +118,7 @@ pub(crate) fn tasks_in(
 }
 
 /// The place of the first one with a variable; where none has it, how many there are.
-fn task_place(ops: &[Task], v: VarId) -> usize
+pub(crate) fn task_place(ops: &[Task], v: VarId) -> usize
     ensures { result ≡ task_place ops.now v }
 {
     for i in 0..ops.len() {

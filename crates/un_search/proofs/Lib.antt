@@ -5,3 +5,4 @@ pub mod EnoughPins
 pub mod RootLemmas
 pub mod RoundLemmas
 pub mod SolveLemmas
+pub mod Tightening

@@ -1,20 +1,21 @@
 -- Stores at the first box: as they are posted, after a search, and under a lower limit.
-use Rattle.std.proofs.Common.{ℕ, ◌≡◌, ◌<◌, ◌≤◌, List, [], ◌∷◌, length, get_or, set, Option, None, Some, All, map, refl, sym, ap, ◌∙◌, subst, arith}
+use Rattle.std.proofs.Common.{ℕ, ◌≡◌, ◌≤◌, List, [], ◌∷◌, length, map, Option, None, Some, All, refl, sym, ap, ◌∙◌, subst, arith}
 use Rattle.std.specs.Prelude.{IfSome}
 use Rattle.un_domains.specs.OrderLaws.{Below-refl}
 use Rattle.un_domains.specs.Sets.{Sets, NoneEmpty}
 use Rattle.un_model.specs.declared.model.Model.{Model}
 use Rattle.un_prop.specs.Pruning.{HasRoom, IsFix}
-use Rattle.un_prop.specs.Rounds.{HasVars, fix_of}
+use Rattle.un_prop.specs.Rounds.{fix_of}
 use Rattle.un_prop.specs.declared.run.Fix.{Fix}
 use Rattle.un_prop.specs.declared.run.Fix.TheVariants.{Stable, Failed as Fails}
-use Rattle.un_kinds.specs.AnyProps.{constraint_of, cut_of, scope_of, span_of}
+use Rattle.un_kinds.specs.AnyProps.{constraint_of, cut_of}
 use Rattle.un_kinds.specs.Scopes.{IsTight}
 use Rattle.un_kinds.specs.declared.any.AnyProp.{AnyProp}
-use Rattle.un_sites.specs.Befores.{all_postings_of}
-use Rattle.un_post.specs.Lowered.{IsLowering, limit_place}
+use Rattle.un_post.specs.Listed.{all_postings_of}
+use Rattle.un_post.specs.Lowered.{AreTighter, IsLowering, limit_place, with_lower}
 use Rattle.un_post.specs.Postable.{IsPostable}
-use Rattle.un_post.specs.Posts.{fix_at}
+use Rattle.un_post.specs.Posts.{ReadsFrom, fix_at}
+use Rattle.un_post.specs.declared.lower.Lowered.{Lowered}
 use Rattle.un_engine.proofs.EngineLaws.{failed_is, stable_is}
 use Rattle.un_engine.specs.Engines.{State}
 use Rattle.un_tree.specs.declared.node.Decision.{Decision}
@@ -60,6 +61,10 @@ module _ (m : Model) (limit : Option ℕ) where
         fresh = end.0;
       }
 
+  -- each propagator reads what is there
+  pub root_reads : (s : ModelStores) → AreAtRoot m limit s → All (ReadsFrom s.engine.store.sets) s.engine.props
+  root_reads s h i d lt k x below = rw h.stores.ends_long (h.stores.posted.reads i d lt k x below)
+
   -- no set is empty there
   pub root_live : (s : ModelStores) → AreAtRoot m limit s → NoneEmpty s.engine.store.sets
   root_live s h = (posted_inside m limit s.engine.props h.stores.posted (root_of m) s.engine.store.sets
@@ -88,39 +93,37 @@ root_above m (Some k) limit n h le = (h.0, (let e = h.1 in omega (arith, e, le))
 
 -- ---- a lower limit
 
-module _ (m : Model) (r : Root) (h : IsRoot m r) (limit : ℕ) (p : AnyProp) (low : IsLowering m limit r.stores.engine.props p) where
+-- what is said of a list is so of one that is the same
+pub by_props : (m : Model) (limit : ℕ) (l : Lowered) (ps qs : List AnyProp) (at : ℕ) → qs ≡ ps
+    → ((most : ℕ) → limit ≤ most → map constraint_of qs ≡ all_postings_of m (Some most) → All IsTight qs → at ≡ limit_place m
+    → IsLowering m limit qs l)
+    → (most : ℕ) → limit ≤ most → map constraint_of ps ≡ all_postings_of m (Some most) → All IsTight ps → at ≡ limit_place m
+    → IsLowering m limit ps l
+by_props m limit l ps qs at same made most le asks tight place =
+    subst (λ (rs : List AnyProp). IsLowering m limit rs l) same
+    (made most le (subst (λ (rs : List AnyProp). map constraint_of rs ≡ all_postings_of m (Some most)) (sym same) asks)
+    (subst (All IsTight) (sym same) tight) place)
+
+module _ (m : Model) (r : Root) (h : IsRoot m r) (limit : ℕ) (l : Lowered) (low : IsLowering m limit r.stores.engine.props l) where
   abbrev ps : List AnyProp
   ps = r.stores.engine.props
 
   abbrev qs : List AnyProp
-  qs = set ps (limit_place m) p
+  qs = with_lower ps (limit_place m) l
 
   posted : ArePosted m (Some limit) qs
   posted = are_posted m (Some limit) qs h.at.postable low.asks low.tight
 
-  pub low_there : r.limit_at < length ps
-  low_there = subst (λ (k : ℕ). k < length ps) (sym h.place) low.there
+  pub low_tighter : AreTighter ps r.limit_at l
+  low_tighter = subst (λ (k : ℕ). AreTighter ps k l) (sym h.place) low.tighter
 
-  pub low_scope : scope_of p ≡ scope_of (get_or ps r.limit_at p)
-  low_scope = subst (λ (k : ℕ). scope_of p ≡ scope_of (get_or ps k p)) (sym h.place) low.scope
-
-  pub low_span : span_of p ≤ span_of (get_or ps r.limit_at p)
-  low_span = subst (λ (k : ℕ). span_of p ≤ span_of (get_or ps k p)) (sym h.place) low.span
-
-  pub low_stricter : (s : Sets) → NoneEmpty s → HasVars (scope_of p) s → cut_of p s ≡ Some s → cut_of (get_or ps r.limit_at p) s ≡ Some s
-  low_stricter s full known e =
-      subst (λ (k : ℕ). cut_of (get_or ps k p) s ≡ Some s) (sym h.place) (low.stricter s full known e)
-
-  module _ (e : State AnyProp) (fix : Fix) (props : e.props ≡ set ps r.limit_at p)
+  module _ (e : State AnyProp) (fix : Fix) (props : fix ≡ Stable → e.props ≡ with_lower ps r.limit_at l)
       (long : length e.store.sets ≡ length r.stores.engine.store.sets) (fresh : e.store.marked ≡ [])
       (ends : (box : Sets) → NoneEmpty box → length box ≡ length r.stores.engine.store.sets
-      → fix_of cut_of ps box ≡ Some r.stores.engine.store.sets → IsFix (fix_of cut_of (set ps r.limit_at p) box) e.store.sets fix) where
-    own : e.props ≡ qs
-    own = props ∙ ap (λ (k : ℕ). set ps k p) h.place
-
+      → fix_of cut_of ps box ≡ Some r.stores.engine.store.sets → IsFix (fix_of cut_of (with_lower ps r.limit_at l) box) e.store.sets fix) where
     run : IsFix (fix_at m (Some limit) (root_of m)) e.store.sets fix
     run = subst (λ (c : Option Sets). IsFix c e.store.sets fix)
-        (ap (λ (k : ℕ). fix_of cut_of (set ps k p) (root_of m)) h.place ∙ posted.fixed (root_of m))
+        (ap (λ (k : ℕ). fix_of cut_of (with_lower ps k l) (root_of m)) h.place ∙ posted.fixed (root_of m))
         (ends (root_of m) h.at.full (sym h.at.stores.ends_long) (h.at.stores.posted.fixed (root_of m) ∙ h.at.ends))
 
     pub low_lost : fix ≡ Fails → IsLost m (Some limit)
@@ -134,6 +137,7 @@ module _ (m : Model) (r : Root) (h : IsRoot m r) (limit : ℕ) (p : AnyProp) (lo
     pub low_root : (s : ModelStores) → s.engine ≡ e → s.cuts ≡ r.stores.cuts → s.scratch ≡ r.stores.scratch → fix ≡ Stable
         → AreAtRoot m (Some limit) s
     low_root s engine cuts scratch is =
+        let own : e.props ≡ qs = props is ∙ ap (λ (k : ℕ). with_lower ps k l) h.place in
         let stores : AreStores m (Some limit) e.props e.store.sets r.stores.cuts.sets r.stores.scratch = record {
           model = h.at.stores.model;
           extended = h.at.stores.extended;

@@ -1,7 +1,14 @@
 //! A model that is posted once: its stores at the first box, under a limit on the cost that may fall.
 
-ghost use Rattle.std.specs.Prelude.{◌≡◌, ◌≤◌, Some, IfOk, IfSome};
+ghost use Rattle.std.specs.Prelude.{◌≡◌, ◌≤◌, [], Some, All, IfOk, IfSome, length};
+ghost use Rattle.un_domains.specs.Sets.{Sets, NoneEmpty};
+ghost use Rattle.un_prop.specs.Pruning.{IsFix};
+ghost use Rattle.un_prop.specs.Rounds.{fix_of};
+ghost use Rattle.un_prop.specs.declared.run.Fix.TheVariants.{Stable};
+ghost use Rattle.un_kinds.specs.AnyProps.{cut_of};
+ghost use Rattle.un_post.specs.Lowered.{AreTighter, IsTighter, with_counted, with_lower};
 ghost use Rattle.un_post.specs.Postable.{IsPostable};
+ghost use Rattle.un_post.specs.Posts.{ReadsFrom};
 ghost use Rattle.un_search.specs.Roots.{IsBegun, IsPosting, IsRoot, IsRooted};
 
 use crate::best::Best;
@@ -9,8 +16,9 @@ use crate::rounds::{ModelStores, first_stores};
 use std::alloc::Global;
 use un_base::memory_error::NoMemory;
 use un_engine::engine::Engine;
+use un_kinds::any::AnyProp;
 use un_model::model::Model;
-use un_post::lower::lower_limit;
+use un_post::lower::{Lowered, lower_limit};
 use un_post::post::{Posted, post};
 use un_prop::run::Fix;
 
@@ -85,6 +93,49 @@ pub(crate) fn first_root(alloc: Global, m: &Model, limit: u64) -> Result<Option<
     }
 }
 
+/// Puts the rows under a lower limit in their place, where they are posted, and runs what that wakes.
+fn tighten_rows(engine: &mut Engine<AnyProp>, at: usize, counted: Option<AnyProp>) -> Fix
+    requires live { NoneEmpty engine.old.store.sets }
+    requires fresh { engine.old.store.marked ≡ [] }
+    requires tighter { IfSome counted (IsTighter engine.old.props at) }
+    ensures props { engine.new.props ≡ with_counted engine.old.props at counted }
+    ensures long { length engine.new.store.sets ≡ length engine.old.store.sets }
+    ensures fresh { engine.new.store.marked ≡ [] }
+    ensures fix { (box : Sets) → NoneEmpty box → length box ≡ length engine.old.store.sets
+        → fix_of cut_of engine.old.props box ≡ Some engine.old.store.sets
+        → IsFix (fix_of cut_of (with_counted engine.old.props at counted) box) engine.new.store.sets result }
+{
+    match counted {
+        None => Fix::Stable,
+        Some(p) => engine.tighten(at, p),
+    }
+}
+
+/// Puts the propagators of a lower limit in their places, and runs what that wakes.
+fn tighten(engine: &mut Engine<AnyProp>, at: usize, lower: Lowered) -> Fix
+    requires live { NoneEmpty engine.old.store.sets }
+    requires fresh { engine.old.store.marked ≡ [] }
+    requires reads { All (ReadsFrom engine.old.store.sets) engine.old.props }
+    requires tighter { AreTighter engine.old.props at lower }
+    ensures props { result ≡ Stable → engine.new.props ≡ with_lower engine.old.props at lower }
+    ensures long { length engine.new.store.sets ≡ length engine.old.store.sets }
+    ensures fresh { engine.new.store.marked ≡ [] }
+
+    // From what the rounds leave of a box to what they leave of it with these.
+    ensures fix { (box : Sets) → NoneEmpty box → length box ≡ length engine.old.store.sets
+        → fix_of cut_of engine.old.props box ≡ Some engine.old.store.sets
+        → IsFix (fix_of cut_of (with_lower engine.old.props at lower) box) engine.new.store.sets result }
+{
+    engine.facts();
+    let Lowered { cost, counted } = lower;
+    // A list has no more items than there are numbers: so the place behind has one.
+    let _count = engine.props().len();
+    match engine.tighten(at, cost) {
+        Fix::Failed => Fix::Failed,
+        Fix::Stable => tighten_rows(engine, at + 1, counted),
+    }
+}
+
 /// Lowers the limit where it stands, and runs what that wakes. No root where the rounds fail then.
 fn lower(alloc: Global, m: &Model, root: Root, limit: u64) -> Result<Option<Root>, NoMemory>
     requires root { IsRoot m.now root }
@@ -96,8 +147,8 @@ fn lower(alloc: Global, m: &Model, root: Root, limit: u64) -> Result<Option<Root
         limit: _,
         limit_at,
     } = root;
-    let p = lower_limit(alloc, m, limit)?;
-    match stores.engine.tighten(limit_at, p) {
+    let lower = lower_limit(alloc, m, stores.engine.props(), limit_at, limit)?;
+    match tighten(&mut stores.engine, limit_at, lower) {
         Fix::Failed => Ok(None),
         Fix::Stable => Ok(Some(Root {
             stores,

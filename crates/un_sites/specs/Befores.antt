@@ -1,4 +1,4 @@
--- What is posted of the arcs of a model and of the lengths of its blocks, and the whole list of what is posted for it.
+-- What is posted of the arcs of a model and of the lengths of its blocks.
 use Rattle.std.specs.Prelude.{ℕ, ◌==◌, List, [], ◌∷◌, ◌++◌, Option, Some, None, length, map, slice_get}
 use Rattle.un_ir.specs.declared.extended.ExtBlock.{ExtBlock}
 use Rattle.un_model.specs.declared.model.Arc.{Arc}
@@ -10,9 +10,8 @@ use Rattle.un_kinds.specs.Constraints.{Constraint, Before}
 use Rattle.un_sites.specs.CallBefores.{call_befores_by}
 use Rattle.un_sites.specs.Lengths.{length_by}
 use Rattle.un_sites.specs.Places.{Place, no_place, time_of, block_places, places_of, definers_of}
-use Rattle.un_sites.specs.Postings.{postings_of}
-use Rattle.un_sites.specs.Pressures.{block_room, pressures_of, registers_among}
-use Rattle.un_sites.specs.Rooms.{arcs_or, rooms_of}
+use Rattle.un_sites.specs.Pressures.{block_room, registers_among}
+use Rattle.un_sites.specs.Rooms.{arcs_or}
 use Rattle.un_sites.specs.Saved.{crowded_of, edges_between, owed_by}
 use Rattle.un_sites.specs.declared.edges.Accesses.{Accesses}
 
@@ -56,10 +55,3 @@ length_in m b n block vars =
 -- one block after another
 abbrev pub lengths_of : Model → List Constraint
 lengths_of m = over_blocks (length_in m) 0 0 m.ext.blocks m.blocks
-
--- ---- the whole list
-
--- All that is posted for a model, under a limit on the cost or none: of single operations, congruences, the frame and the limit;
--- of arcs; of registers, calls, packets and two operands; and of the lengths of blocks and of pressure, which the rest implies.
-abbrev pub all_postings_of : Model → Option ℕ → List Constraint
-all_postings_of m limit = postings_of m limit ++ (befores_of m ++ (rooms_of m ++ (lengths_of m ++ pressures_of m)))

@@ -1,0 +1,2 @@
+pub mod Looser
+mod Past

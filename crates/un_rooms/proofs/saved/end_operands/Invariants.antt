@@ -1,6 +1,0 @@
-use Rattle.std.proofs.Common.{◌≡◌, drop}
-use Rattle.un_sites.specs.Saved.{end_operands}
-use Rattle.un_rooms.proofs.saved.end_operands.Given as goal
-
-abbrev pub invariant-loop-k : goal.invariant-loop-k
-invariant-loop-k l = end_operands (drop l.k l.ops) ≡ end_operands l.ops

@@ -1,8 +1,0 @@
-use Rattle.std.proofs.Common.{arith}
-use Rattle.un_rooms.proofs.Saving.{none_alone}
-use Rattle.un_rooms.proofs.saved.read_alone.Goals as goal
-
-pub returns-then-i-operands : goal.returns-then-i-operands
-returns-then-i-operands c =
-    none_alone c.args.temps.now c.args.operands.now c.loop-i.i _ (omega (arith, c.loop-i-test.true, c.loop-i.auto.i-end))
-    (omega (arith, c.if-i-operands.true)) c.loop-i.invariant

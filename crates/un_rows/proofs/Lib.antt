@@ -1,0 +1,4 @@
+pub mod Fitting
+pub mod Meeting
+pub mod Walks
+pub mod Whole

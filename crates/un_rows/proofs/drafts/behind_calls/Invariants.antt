@@ -1,0 +1,7 @@
+use Rattle.std.proofs.Common.{◌≡◌, ◌++◌, drop}
+use Rattle.un_rows.specs.Drafts.{behind_calls}
+use Rattle.un_rows.proofs.drafts.behind_calls.Given as goal
+
+-- those that are added, and those of the rest
+abbrev pub invariant-loop-call : goal.invariant-loop-call
+invariant-loop-call l = l.arcs ++ behind_calls l.n (drop l.call-index l.calls) ≡ behind_calls l.n l.calls

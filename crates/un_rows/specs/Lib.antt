@@ -1,0 +1,4 @@
+pub mod Drafts
+pub mod Kept
+pub mod Roles
+pub mod Rows

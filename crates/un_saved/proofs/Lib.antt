@@ -1,0 +1,16 @@
+pub mod Bounds
+pub mod CallOwes
+pub mod CallReloads
+pub mod Ends
+pub mod EntrySpills
+pub mod Here
+pub mod Joining
+pub mod Marking
+pub mod Models
+pub mod OnePlace
+pub mod OwedCalls
+pub mod OwedReloads
+pub mod OwedSpills
+pub mod Regions
+pub mod ReturnReloads
+pub mod Saving
