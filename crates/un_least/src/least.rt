@@ -4,13 +4,13 @@ ghost use Rattle.std.specs.Prelude.{◌≡◌, ◌+◌, ◌<◌, ◌≤◌, ◌^
 ghost use Rattle.un_least.specs.Least.{head_cycle, tail_cycle, earliest_of, latest_of, fits_before, least_end_of};
 ghost use Rattle.un_length.specs.Places.{at_place};
 
-use crate::crowd::{all_fit, in_order};
-use crate::mixed::mixed_room;
-use crate::window::{lower_all, raise_all};
 use std::alloc::Global;
 use un_base::memory_error::NoMemory;
 use un_base::numbers::number;
 use un_length::block::{Block, Task};
+use un_length::crowd::{all_fit, in_order};
+use un_length::mixed::mixed_room;
+use un_length::window::{lower_all, raise_all};
 
 /// The first cycle of an operation in any store: 1 for all but the end, from its head on.
 fn head_cycle(task: Task) -> u32

@@ -2,9 +2,9 @@
 #![tactic(auto)]
 
 pub mod block;
-mod crowd;
+pub mod crowd;
 mod holds;
 pub mod length;
-mod mixed;
+pub mod mixed;
 mod room;
-mod window;
+pub mod window;

@@ -133,7 +133,7 @@ fn mixes_fit(t: &Timed<'_>, end: u32, counts: &mut [u32]) -> bool
 }
 
 /// Whether the operations have room, with what the cycles before `end` lose, where numbers count them.
-pub(crate) fn mixed_room(
+pub fn mixed_room(
     ops: &[Task],
     early: &[u32],
     late: &[u32],

@@ -46,7 +46,7 @@ fn raise(arc: Precedence, early: &mut [u32])
 }
 
 /// Raises the operations by each precedence in turn.
-fn raise_all(arcs: &[Precedence], early: &mut [u32])
+pub fn raise_all(arcs: &[Precedence], early: &mut [u32])
     requires { All (Leads (length early.old)) arcs.now }
     ensures { (i : ℕ) → slice_index early.new i ≡ raised arcs.now (slice_index early.old) i }
 {
@@ -91,7 +91,7 @@ fn lower(arc: Precedence, late: &mut [u32])
 }
 
 /// Lowers the operations by each precedence in turn, the last one first.
-fn lower_all(arcs: &[Precedence], late: &mut [u32])
+pub fn lower_all(arcs: &[Precedence], late: &mut [u32])
     requires { All (Leads (length late.old)) arcs.now }
     ensures { (i : ℕ) → slice_index late.new i ≡ lowered arcs.now (slice_index late.old) i }
 {

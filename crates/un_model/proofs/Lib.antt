@@ -13,6 +13,8 @@ pub mod Operations
 pub mod Placed
 pub mod TempKinds
 pub mod Readings
+pub mod Regions
+pub mod Ends
 pub mod ArcsKept
 pub mod EndLaws
 pub mod Gaps

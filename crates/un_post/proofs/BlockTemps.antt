@@ -19,7 +19,7 @@ use Rattle.un_post.proofs.Blocks.{blocks, region_places, joined_parts, map_twice
 use Rattle.un_post.proofs.Facts.{Given, numbered, definer_is, definer_acts, definer_times}
 use Rattle.un_post.proofs.Meeting.{each_joined, joined_each}
 use Rattle.un_post.proofs.Placing.{place_of, definer_at, definer_here}
-use Rattle.un_post.proofs.Regions.{placed_regions, of_region}
+use Rattle.un_model.proofs.Regions.{placed_regions, of_region}
 use Rattle.un_post.proofs.Users.{ends_is}
 
 abbrev pub region_spots : Region → List Spot

@@ -16,7 +16,7 @@ use Rattle.un_kinds.specs.Constraints.{Constraint, AllMet}
 use Rattle.un_sites.specs.Places.{Place, place_at, block_places}
 use Rattle.un_post.proofs.Meeting.{Met, met_all, all_met, each_joined, joined_each}
 use Rattle.un_post.proofs.Placing.{place_of}
-use Rattle.un_post.proofs.Regions.{regions, placed_regions, over_regions, of_region}
+use Rattle.un_model.proofs.Regions.{regions, placed_regions, over_regions, of_region}
 
 -- ---- lists
 

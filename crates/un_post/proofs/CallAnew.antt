@@ -47,7 +47,7 @@ use Rattle.un_post.proofs.Blocks.{blocks, in_all, region_places, stands_in}
 use Rattle.un_post.proofs.Facts.{Given, falls, in_domains, definer_is, reader_goes, Reading as Asking, reading as asked_of}
 use Rattle.un_post.proofs.Memory.{contains_member}
 use Rattle.un_post.proofs.Placing.{place_of}
-use Rattle.un_post.proofs.Regions.{of_region}
+use Rattle.un_model.proofs.Regions.{of_region}
 use Rattle.un_post.proofs.SpaceSets.{predicate}
 use Rattle.un_post.proofs.Spared.{call_instr, is_spared, range_spared}
 use Rattle.un_post.proofs.Tests.{and_iff, le_iff, lt_iff}

@@ -37,7 +37,8 @@ use Rattle.un_post.proofs.CallAnew.{Rewritten, rewritten}
 use Rattle.un_post.proofs.CallCounts.{three_after}
 use Rattle.un_post.proofs.CallOrder.{ordered}
 use Rattle.un_post.proofs.Facts.{Given, times}
-use Rattle.un_post.proofs.Meeting.{Met, each_places, joined_each}
+use Rattle.un_root.proofs.Eaches.{each_places}
+use Rattle.un_post.proofs.Meeting.{Met, joined_each}
 use Rattle.un_post.proofs.Placing.{place_of}
 use Rattle.un_post.proofs.Tests.{and_iff, le_iff}
 

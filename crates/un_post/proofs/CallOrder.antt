@@ -51,7 +51,7 @@ use Rattle.un_post.proofs.Blocks.{blocks, region_places, in_all, past, region_cl
 use Rattle.un_post.proofs.Facts.{Given}
 use Rattle.un_post.proofs.Placing.{place_of}
 use Rattle.un_post.proofs.Packets.{no_room, share, sum_part, whole_taken}
-use Rattle.un_post.proofs.Regions.{regions, of_region, out_is}
+use Rattle.un_model.proofs.Regions.{regions, of_region, out_is}
 use Rattle.un_post.proofs.Spared.{Ordered, spared, call_instr}
 use Rattle.un_post.proofs.Tests.{and_iff}
 

@@ -39,16 +39,22 @@ use Rattle.un_alt.specs.Registers.{chosen_value, some_passes}
 use Rattle.un_kinds.specs.Constraints.{Constraint, AllMet, Same}
 use Rattle.un_sites.specs.Places.{Place, Definer, definers_of, definer_or, definers_at, block_places}
 use Rattle.un_sites.specs.Postings.{edges_of, over_edge, congruence, same_by, registers_of, last_place}
-use Rattle.un_post.proofs.Ends.{all_regions, region_member, region_good, region_end, last_member, the_end, end_read}
+use Rattle.un_model.proofs.Ends.{all_regions, region_member, region_good, region_end, last_member, the_end, end_read}
 use Rattle.un_post.proofs.Facts.{Given, Reading, good, good_op, all_member, numbered, definer_is, choice_var, reading, read_range}
 use Rattle.un_post.proofs.Facts.{read_register}
-use Rattle.un_post.proofs.Meeting.{each_joined, joined_each, each_places, places_each, Met, met_all, all_met}
+use Rattle.un_root.proofs.Eaches.{each_places}
+use Rattle.un_post.proofs.Meeting.{each_joined, joined_each, places_each, Met, met_all, all_met}
 use Rattle.un_post.proofs.Placing.{place_of, definer_here, placed_places}
-use Rattle.un_post.proofs.Regions.{region_is, region_of, over_regions, last_of, front_of, region_parts, last_append}
+use Rattle.un_model.proofs.Regions.{region_is, region_of, over_regions, last_of, front_of, region_parts}
 use Rattle.un_post.proofs.Tests.{iff_then, eq_iff, met_one}
 use Rattle.un_post.proofs.Whole.{spot_in}
 
 -- ---- several lists
+
+last_append : (ps : List Place) (p : Place) → last_place (ps ++ p ∷ []) ≡ p
+last_append [] p = refl
+last_append (q ∷ []) p = refl
+last_append (q ∷ r ∷ ps) p = last_append (r ∷ ps) p
 
 each_flat : {A : Type 0} (Q : A → Type 0) (xss : List (List A)) → Each (λ xs. Each Q xs) xss → Each Q (joined xss)
 each_flat Q [] h = tt
@@ -154,10 +160,10 @@ module _ (e : Ext) (o : Options) (x : List ℕ) (given : Given e o x) where
       let same : r.owner ≡ b = cc (sym (region_is 0 0 0 e.blocks l r found.1).0 ∙ at) in
       by r found.1 same
     where
-      by : (r : Region) → slice_get (all_regions e o x given) l ≡ Some r → r.owner ≡ b → Taken b j y
+      by : (r : Region) → slice_get (all_regions e o x given.extended) l ≡ Some r → r.owner ≡ b → Taken b j y
       by r rt same =
           let own : ExtBlock = r.owner in
-          let g = region_good e o x given l r rt in
+          let g = region_good e o x given.extended l r rt in
           let parts = g.parts in
           let p = parts.0 in
           let h = parts.1 in
@@ -172,7 +178,7 @@ module _ (e : Ext) (o : Options) (x : List ℕ) (given : Given e o x) where
           (sym results ∙ ap (λ (c : ExtBlock). live_in_temps c.ops) same) ∙ live in
           let got = placed_get r.block own (var_at (r.first + ops_count own.ops)) r.number r.first 0 own.ops start first in
           let q = got.0 in
-          let m = region_member e o x given l r q rt (member_at (region_placed r) 0 q got.1) in
+          let m = region_member e o x given.extended l r q rt (member_at (region_placed r) 0 q got.1) in
           let at_q : slice_get q.op.results j ≡ Some y = ap (λ (op : ExtOp). slice_get op.results j) got.2 ∙ here in
           let lt = length_get start.results j y here in
           let names : length own.live_in ≡ length b.live_in = ap (λ (c : ExtBlock). length c.live_in) same in
@@ -180,16 +186,16 @@ module _ (e : Ext) (o : Options) (x : List ℕ) (given : Given e o x) where
 
   -- ---- one edge
 
-  module _ (k : ℕ) (r : Region) (at : slice_get (all_regions e o x given) k ≡ Some r) where
+  module _ (k : ℕ) (r : Region) (at : slice_get (all_regions e o x given.extended) k ≡ Some r) where
     -- the place of what is handed over
     place_below : (l : ℕ) (b : ExtBlock) (j : ℕ) (y : TempId) → Member l (targets_of k (let a = r.owner in term_of a.ops))
         → slice_get e.blocks l ≡ Some b → Taken b j y
-        → (let q = the_end e o x given k r at in place_over r.owner b j < length q.op.operands)
+        → (let q = the_end e o x given.extended k r at in place_over r.owner b j < length q.op.operands)
     place_below l b j y m atb t =
-        let q = the_end e o x given k r at in
+        let q = the_end e o x given.extended k r at in
         let a : ExtBlock = r.owner in
-        let en = region_end e o x given k r at in
-        let g = good_op e o x given q (last_member e o x given k r at) in
+        let en = region_end e o x given.extended k r at in
+        let g = good_op e o x given q (last_member e o x given.extended k r at) in
         let keeps = g.keeps in
         let ending = ending_of a.ops in
         let edge : Member l (targets_of k ending.term) = subst (λ (t : Term). Member l (targets_of k t)) (same_term a.ops) m in
@@ -229,26 +235,26 @@ module _ (e : Ext) (o : Options) (x : List ℕ) (given : Given e o x) where
     agree : (l : ℕ) (b : ExtBlock) (j : ℕ) (y : TempId) → Member l (targets_of k (let a = r.owner in term_of a.ops))
         → slice_get e.blocks l ≡ Some b → slice_get (live_in_temps b.ops) j ≡ Some y
         → IsCongruent (schedule_of (model_of e o) x) k r.owner b j y ↔ Met x
-        (congruence (definers_of (model_of e o)) (place_of (the_end e o x given k r at)) r.owner b j y)
+        (congruence (definers_of (model_of e o)) (place_of (the_end e o x given.extended k r at)) r.owner b j y)
     agree l b j y m atb live =
         let t = taken l b j y atb live in
-        let q = the_end e o x given k r at in
+        let q = the_end e o x given.extended k r at in
         let i = place_over r.owner b j in
         let got = get_below q.op.operands i (place_below l b j y m atb t) in
-        by t got.0 got.1 (reading e o x given q i got.0 (last_member e o x given k r at) got.1)
+        by t got.0 got.1 (reading e o x given q i got.0 (last_member e o x given.extended k r at) got.1)
       where
-        by : (t : Taken b j y) (operand : Operand) (here : let q = the_end e o x given k r at in
+        by : (t : Taken b j y) (operand : Operand) (here : let q = the_end e o x given.extended k r at in
             slice_get q.op.operands (place_over r.owner b j) ≡ Some operand)
-            → Reading e o x given (the_end e o x given k r at) (place_over r.owner b j) operand
+            → Reading e o x given (the_end e o x given.extended k r at) (place_over r.owner b j) operand
             → IsCongruent (schedule_of (model_of e o) x) k r.owner b j y ↔ Met x
-            (congruence (definers_of (model_of e o)) (place_of (the_end e o x given k r at)) r.owner b j y)
+            (congruence (definers_of (model_of e o)) (place_of (the_end e o x given.extended k r at)) r.owner b j y)
         by t operand here rd =
-            let q = the_end e o x given k r at in
+            let q = the_end e o x given.extended k r at in
             let i = place_over r.owner b j in
             let ds = definers_of (model_of e o) in
             let v = var_at (q.first + choice_place q.op + i) in
             let regs = registers_of (definers_at ds operand.alts) in
-            let en = region_end e o x given k r at in
+            let en = region_end e o x given.extended k r at in
             let from = (spot_range e o x rd.spot).reg in
             let into = (spot_range e o x t.spot).reg in
             let choice = choice_var e o x given q i operand here (ap has_choices en.is_end) in
@@ -265,7 +271,7 @@ module _ (e : Ext) (o : Options) (x : List ℕ) (given : Given e o x) where
             ap (λ (u : Option Operand). same_by ds y u (slice_get (vars_of q).choices i)) here ∙ ap (same_by ds y (Some operand)) choice in
             let ranges = the_ranges e o x in
             let left : register_read ranges (slice_get (live_out_reads k (reads_of (model_of e o) x)) i) ≡ Some from =
-            ap (register_read ranges) (end_read e o x given k r at i operand here)
+            ap (register_read ranges) (end_read e o x given.extended k r at i operand here)
             ∙ ap (option_map (λ (h : LiveRange). h.reg)) (read_range e o x given q i operand rd) in
             let right : register_of ranges y ≡ Some into =
             ap (register_of ranges) (sym t.is) ∙ ap (option_map (λ (h : LiveRange). h.reg))
@@ -283,11 +289,11 @@ module _ (e : Ext) (o : Options) (x : List ℕ) (given : Given e o x) where
   abbrev out_of : Region → Place
   out_of r = last_place (block_places r.block r.number r.owner (block_vars r.first r.owner))
 
-  module _ (k : ℕ) (r : Region) (at : slice_get (all_regions e o x given) k ≡ Some r) where
-    out_is : out_of r ≡ place_of (the_end e o x given k r at)
+  module _ (k : ℕ) (r : Region) (at : slice_get (all_regions e o x given.extended) k ≡ Some r) where
+    out_is : out_of r ≡ place_of (the_end e o x given.extended k r at)
     out_is =
         let own : ExtBlock = r.owner in
-        let en = region_end e o x given k r at in
+        let en = region_end e o x given.extended k r at in
         ap last_place (placed_places r.block own (var_at (r.first + ops_count own.ops)) r.number r.first own.ops
         ∙ ap (map place_of) (region_parts r en) ∙ map-append place_of (front_of r en) (last_of r en ∷ []))
         ∙ last_append (map place_of (front_of r en)) (place_of (last_of r en))
@@ -325,7 +331,7 @@ module _ (e : Ext) (o : Options) (x : List ℕ) (given : Given e o x) where
 
         onto : (l : ℕ) (n : Option ExtBlock) → slice_get e.blocks l ≡ n
             → ((b : ExtBlock) → slice_get e.blocks l ≡ Some b → (j : ℕ) (y : TempId) → slice_get (live_in_temps b.ops) j ≡ Some y
-            → Met x (congruence (definers_of (model_of e o)) (place_of (the_end e o x given k r at)) r.owner b j y))
+            → Met x (congruence (definers_of (model_of e o)) (place_of (the_end e o x given.extended k r at)) r.owner b j y))
             → Met x (over_edge (definers_of (model_of e o)) (out_of r) r.owner (slice_get e.blocks l))
         onto l None q f = subst (λ (n : Option ExtBlock). Met x (over_edge (definers_of (model_of e o)) (out_of r) r.owner n)) (sym q) tt
         onto l (Some b) q f =
@@ -349,8 +355,8 @@ module _ (e : Ext) (o : Options) (x : List ℕ) (given : Given e o x) where
   )
     where
       regs : List Region
-      regs = all_regions e o x given
+      regs = all_regions e o x given.extended
 
       listed : over_blocks (edges_of e.blocks (definers_of (model_of e o))) 0 0 e.blocks (blocks_vars 0 e.blocks) ≡ joined
-          (map edges_at (all_regions e o x given))
+          (map edges_at (all_regions e o x given.extended))
       listed = over_regions (edges_of e.blocks (definers_of (model_of e o))) 0 0 0 e.blocks

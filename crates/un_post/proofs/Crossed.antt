@@ -62,7 +62,7 @@ use Rattle.un_post.proofs.Filling.{none_of, several_or_none, several_more}
 use Rattle.un_post.proofs.OneEnter.{filter_map}
 use Rattle.un_post.proofs.Placing.{place_of}
 use Rattle.un_post.proofs.RoomOfBlocks.{has_room}
-use Rattle.un_post.proofs.Regions.{of_region}
+use Rattle.un_model.proofs.Regions.{of_region}
 use Rattle.un_post.proofs.Spared.{Ordered}
 use Rattle.un_post.proofs.Tests.{and_iff}
 use Rattle.un_post.proofs.AccessRooms.{spills_fit, reloads_fit}

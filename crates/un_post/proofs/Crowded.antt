@@ -54,11 +54,11 @@ use Rattle.un_post.proofs.AccessRooms.{placed_as}
 use Rattle.un_post.proofs.Blocks.{blocks, region_places, in_all}
 use Rattle.un_post.proofs.Congruences.{in_is, live_in_is}
 use Rattle.un_post.proofs.Crossed.{OtherTemp, different, pairwise_part, some_home}
-use Rattle.un_post.proofs.Ends.{all_regions, region_good, region_end, last_member, the_end, end_reads, end_read}
+use Rattle.un_model.proofs.Ends.{all_regions, region_good, region_end, last_member, the_end, end_reads, end_read}
 use Rattle.un_post.proofs.Facts.{Given, numbered, reading, read_temp, in_domains}
 use Rattle.un_post.proofs.NoSharing.{all_pass}
 use Rattle.un_post.proofs.Placing.{place_of}
-use Rattle.un_post.proofs.Regions.{of_region, last_of, front_of, region_parts}
+use Rattle.un_model.proofs.Regions.{of_region, last_of, front_of, region_parts}
 use Rattle.un_post.proofs.SavedLists.{drop_get, differ_drop, temps_differ, end_is, alone_at}
 use Rattle.un_post.proofs.Spared.{call_instr}
 use Rattle.un_post.proofs.Tests.{and_iff}
@@ -126,24 +126,24 @@ module _ (e : Ext) (o : Options) (x : List ℕ) (given : Given e o x)
   issue_member : (q : Placed) → Member q (all e o x) → Member (issue_at x q) (issues_of (model_of e o) x)
   issue_member q m = member_at (issues_of (model_of e o) x) q.number (issue_at x q) (issue_here e o x q m)
 
-  module _ (k : ℕ) (r : Region) (at : slice_get (all_regions e o x given) k ≡ Some r) where
+  module _ (k : ℕ) (r : Region) (at : slice_get (all_regions e o x given.extended) k ≡ Some r) where
     in_blocks : Member r (blocks e o x)
-    in_blocks = member_at (all_regions e o x given) k r at
+    in_blocks = member_at (all_regions e o x given.extended) k r at
 
     abbrev last : Placed
-    last = the_end e o x given k r at
+    last = the_end e o x given.extended k r at
 
     last_in : Member last (region_placed r)
     last_in =
-        let en = region_end e o x given k r at in
+        let en = region_end e o x given.extended k r at in
         subst (Member (last_of r en)) (sym (region_parts r en))
         (member_append_right (front_of r en) (last_of r en ∷ []) (last_of r en) (inl refl))
 
     all_last : Member last (all e o x)
-    all_last = last_member e o x given k r at
+    all_last = last_member e o x given.extended k r at
 
     last_reads : (let own : ExtBlock = r.owner in end_operands own.ops) ≡ (let q = last in q.op.operands)
-    last_reads = let en = region_end e o x given k r at in ap end_operands en.whole ∙ end_is en.front en.out en.inner en.is_end
+    last_reads = let en = region_end e o x given.extended k r at in ap end_operands en.whole ∙ end_is en.front en.out en.inner en.is_end
 
     -- ---- what the block takes
 
@@ -157,7 +157,7 @@ module _ (e : Ext) (o : Options) (x : List ℕ) (given : Given e o x)
     begins : First
     begins =
         let own : ExtBlock = r.owner in
-        let g = region_good e o x given k r at in
+        let g = region_good e o x given.extended k r at in
         let parts = g.parts in
         let p = parts.0 in
         let h = parts.1 in
@@ -248,7 +248,7 @@ module _ (e : Ext) (o : Options) (x : List ℕ) (given : Given e o x)
           → register_read ranges (slice_get (handed_by k) (place_out j)) ≡ register_of ranges v
       stays j v here =
           let h = handed j v here in
-          ap (register_read ranges) (end_read e o x given k r at (place_out j) h.operand h.at_end)
+          ap (register_read ranges) (end_read e o x given.extended k r at (place_out j) h.operand h.at_end)
           ∙ ap (register_of ranges) (chosen last (place_out j) h.operand v all_last h.at_end h.alone)
 
       -- ---- over a call
@@ -264,7 +264,7 @@ module _ (e : Ext) (o : Options) (x : List ℕ) (given : Given e o x)
         ahead =
             let v = vars_of c in
             let w = vars_of last in
-            let en = region_end e o x given k r at in
+            let en = region_end e o x given.extended k r at in
             let within = placed_as e o x given schedule (issue_at x c) Call (issue_member c all_c)
             (call_instr c.op.kind (value_by x v.instr) call) in
             let before = within.0.1 in
@@ -281,7 +281,7 @@ module _ (e : Ext) (o : Options) (x : List ℕ) (given : Given e o x)
         crosses : (j : ℕ) (v : TempId) → slice_get (saved_in r.owner) j ≡ Some v → Crosses v
         crosses j v here =
             let q = last in
-            let en = region_end e o x given k r at in
+            let en = region_end e o x given.extended k r at in
             let h = handed j v here in
             let s = starts j v here in
             let i = place_out j in
@@ -406,7 +406,7 @@ module _ (e : Ext) (o : Options) (x : List ℕ) (given : Given e o x)
           by (Some y) h = (y, h)
           by None h =
               let q = last in
-              let none : slice_get (handed_by k) i ≡ None = ap (λ (rs : List Read). slice_get rs i) (end_reads e o x given k r at)
+              let none : slice_get (handed_by k) i ≡ None = ap (λ (rs : List Read). slice_get rs i) (end_reads e o x given.extended k r at)
               ∙ places_none (read_of x (issue_at x q) (vars_of q)) 0 q.op.operands i h in
               let z : None ≡ Some reg = sym (ap (register_read ranges) none) ∙ is in
               absurd (cc z)
@@ -414,7 +414,7 @@ module _ (e : Ext) (o : Options) (x : List ℕ) (given : Given e o x)
       -- the entry spills it
       pub end_spills : r.block ≡ 0 → (p : Placed) × Accesses_by r Spill p
       end_spills entry =
-          let en = region_end e o x given k r at in
+          let en = region_end e o x given.extended k r at in
           let y = end_operand in
           let active = reads_active e o x solved last i y.0 all_last (ap is_mandatory en.is_end) y.1 in
           let read = read_by e o x solved last i y.0 all_last active y.1 in
@@ -425,7 +425,7 @@ module _ (e : Ext) (o : Options) (x : List ℕ) (given : Given e o x)
           let there : is_active e o x solved s ≡ true = subst (λ (w : LiveRange). w.active ≡ true) range d.active in
           let both : Some (reg_of e o x solved s) ≡ Some reg =
           sym (register_is s d.member) ∙ ap (register_of ranges) d.is
-          ∙ sym (ap (register_read ranges) (end_read e o x given k r at i y.0 y.1)) ∙ is in
+          ∙ sym (ap (register_read ranges) (end_read e o x given.extended k r at i y.0 y.1)) ∙ is in
           let same : reg_of e o x solved s ≡ reg = cc both in
           let high : FIRST_SLOT ≤ reg_of e o x solved s = omega (arith, same, slot) in
           let spilled = slot_spilled e o x solved s d.member there high (not_start s d.member (block ∙ entry) high

@@ -37,7 +37,7 @@ use Rattle.un_rooms.proofs.TaskPlaces.{all_lead}
 use Rattle.un_post.proofs.Blocks.{blocks, in_all, region_places, region_vars}
 use Rattle.un_post.proofs.Facts.{Given}
 use Rattle.un_post.proofs.Filling.{greatest_is}
-use Rattle.un_post.proofs.Meeting.{all_each}
+use Rattle.un_root.proofs.Eaches.{all_each}
 use Rattle.un_post.proofs.Packets.{share}
 use Rattle.un_post.proofs.Placing.{place_of}
 use Rattle.un_saved.specs.declared.boundary.Marks.{Marks}

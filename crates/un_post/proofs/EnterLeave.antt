@@ -20,7 +20,7 @@ use Rattle.un_post.proofs.Blocks.{blocks, in_all}
 use Rattle.un_post.proofs.Facts.{Given}
 use Rattle.un_post.proofs.Issued.{leave_frames, leave_instr}
 use Rattle.un_post.proofs.OneEnter.{one_enter}
-use Rattle.un_post.proofs.Regions.{of_region}
+use Rattle.un_model.proofs.Regions.{of_region}
 use Rattle.un_post.proofs.Spared.{call_instr}
 
 -- ---- by instructions

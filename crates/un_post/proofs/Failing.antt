@@ -26,7 +26,7 @@ use Rattle.un_bound.specs.Relaxations.{Times, IsValue, IsRelaxed, AreRelaxed, Is
 use Rattle.un_kinds.specs.Constraints.{Constraint}
 use Rattle.un_post.specs.Listed.{all_postings_of}
 use Rattle.un_post.specs.Strength.{Strong}
-use Rattle.un_post.proofs.Meeting.{all_each}
+use Rattle.un_root.proofs.Eaches.{all_each}
 use Rattle.un_post.proofs.Relaxed.{has_member}
 
 -- ---- what is a member of a smaller store's relaxation is one of a larger store's

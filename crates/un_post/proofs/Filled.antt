@@ -45,7 +45,7 @@ use Rattle.un_post.proofs.Issued.{enter_optional, leave_optional, leave_frames, 
 use Rattle.un_post.proofs.OneEnter.{filter_map, one_enter}
 use Rattle.un_post.proofs.Packets.{sum_map, sum_part}
 use Rattle.un_post.proofs.Placing.{place_of}
-use Rattle.un_post.proofs.Regions.{of_region, placed_regions}
+use Rattle.un_model.proofs.Regions.{of_region, placed_regions}
 use Rattle.un_post.proofs.Slotted.{ReloadsIn as ReloadsBy, crowded_slotted, owed_spills, owed_reloads}
 use Rattle.un_post.proofs.Spared.{Ordered}
 

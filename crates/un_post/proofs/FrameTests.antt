@@ -24,7 +24,7 @@ use Rattle.un_alt.specs.Frame.{counts, is_after, is_until, is_left, in_order}
 use Rattle.un_sites.specs.Places.{Place, places_of, block_places}
 use Rattle.un_sites.specs.Postings.{with_kind, in_entry, cycle_var, frame_op, copy_use, single_use, uses_of, leave_of}
 use Rattle.un_sites.specs.Postings.{leaves_in}
-use Rattle.un_post.proofs.Ends.{all_regions, region_member}
+use Rattle.un_model.proofs.Ends.{all_regions, region_member}
 use Rattle.un_post.proofs.Facts.{Given}
 use Rattle.un_post.proofs.FrameOrder.{all_iff, late_iff, soon_iff, tag_of, kind_fits, enter_tag, leave_tag, call_tag, copy_counts}
 use Rattle.un_post.proofs.FrameOrder.{call_counts, leave_counts, cycle_is}
@@ -32,7 +32,7 @@ use Rattle.un_post.proofs.FrameTags.{Tag, Enters, Touches, Calls, Leaves, Quiet,
 use Rattle.un_post.proofs.Meeting.{each_joined, joined_each}
 use Rattle.un_post.proofs.OneEnter.{OneEnter, enters}
 use Rattle.un_post.proofs.Placing.{place_of, places_are, placed_places}
-use Rattle.un_post.proofs.Regions.{region_is, over_regions, of_region, placed_regions}
+use Rattle.un_model.proofs.Regions.{region_is, over_regions, of_region, placed_regions}
 use Rattle.un_post.proofs.Tests.{and_iff, lt_iff}
 
 copy_inner : (k : ExtKind) → is_copy k ≡ true → is_delimiter k ≡ false
@@ -91,14 +91,14 @@ module _ (e : Ext) (o : Options) (x : List ℕ) (given : Given e o x) where
   pub record InRegion (q : Placed) : Type 0 where
     pub number : ℕ
     pub region : Region
-    pub at : slice_get (all_regions e o x given) number ≡ Some region
+    pub at : slice_get (all_regions e o x given.extended) number ≡ Some region
     pub inside : Member q (region_placed region)
     pub is : q.block ≡ number
 
   in_region : (q : Placed) → Member q (all e o x) → InRegion q
   in_region q m =
-      let r = joined_member region_placed (all_regions e o x given) q (subst (Member q) (placed_regions 0 0 0 e.blocks) m) in
-      let i = position_of (all_regions e o x given) r.0 r.1 in
+      let r = joined_member region_placed (all_regions e o x given.extended) q (subst (Member q) (placed_regions 0 0 0 e.blocks) m) in
+      let i = position_of (all_regions e o x given.extended) r.0 r.1 in
       let b = of_region r.0 q r.2 in
       let n = (region_is 0 0 0 e.blocks i.0 r.0 i.2).1 in
       record { number = i.0; region = r.0; at = i.2; inside = r.2; is = omega arith }
@@ -108,7 +108,7 @@ module _ (e : Ext) (o : Options) (x : List ℕ) (given : Given e o x) where
   together l q h m b =
       let k = in_region q m in
       let n : k.number ≡ h.number = sym k.is ∙ b ∙ h.is in
-      let same : Some k.region ≡ Some h.region = sym k.at ∙ ap (slice_get (all_regions e o x given)) n ∙ h.at in
+      let same : Some k.region ≡ Some h.region = sym k.at ∙ ap (slice_get (all_regions e o x given.extended)) n ∙ h.at in
       subst (λ (r : Region). Member q (region_placed r)) (cc same) k.inside
 
   abbrev pub leaves_of : List FrameLeave
@@ -125,15 +125,15 @@ module _ (e : Ext) (o : Options) (x : List ℕ) (given : Given e o x) where
   leaves_each Q = (
     λ h l hl k.
         let r = hl.region in
-        let here = each_member _ (all_regions e o x given) r (each_joined Q leaves_at (all_regions e o x given)
-        (subst (Each Q) (over_regions leaves_in 0 0 0 e.blocks) h)) (member_at (all_regions e o x given) hl.number r hl.at) in
+        let here = each_member _ (all_regions e o x given.extended) r (each_joined Q leaves_at (all_regions e o x given.extended)
+        (subst (Each Q) (over_regions leaves_in 0 0 0 e.blocks) h)) (member_at (all_regions e o x given.extended) hl.number r hl.at) in
         let listed = subst (λ (ps : List Place). Each Q (map (leave_of ps) (with_kind is_leave ps))) (places_at r) here in
         let ps = map place_of (region_placed r) in
         (kinds_of (λ p. Q (leave_of ps p)) is_leave (region_placed r)).0 (each_of_map Q (leave_of ps) (with_kind is_leave ps) listed) l
         hl.inside k,
     λ h. subst (Each Q) (sym (over_regions leaves_in 0 0 0 e.blocks))
-        (joined_each Q leaves_at (all_regions e o x given) (each_of _ (all_regions e o x given) (λ r n.
-        let i = position_of (all_regions e o x given) r n in
+        (joined_each Q leaves_at (all_regions e o x given.extended) (each_of _ (all_regions e o x given.extended) (λ r n.
+        let i = position_of (all_regions e o x given.extended) r n in
         let ps = map place_of (region_placed r) in
         subst (λ (ps : List Place). Each Q (map (leave_of ps) (with_kind is_leave ps))) (sym (places_at r))
         (each_map Q (leave_of ps) (with_kind is_leave ps)
@@ -146,7 +146,7 @@ module _ (e : Ext) (o : Options) (x : List ℕ) (given : Given e o x) where
   -- each operation has a in_region
   pub leaves_all : (Q : Placed → Type 0) → ((l : Placed) (h : InRegion l) → is_leave l.op.kind ≡ true → Q l)
       ↔ ((l : Placed) → Member l (all e o x) → is_leave l.op.kind ≡ true → Q l)
-  leaves_all Q = (λ f l m k. f l (in_region l m) k, λ f l h k. f l (region_member e o x given h.number h.region l h.at h.inside) k)
+  leaves_all Q = (λ f l m k. f l (in_region l m) k, λ f l h k. f l (region_member e o x given.extended h.number h.region l h.at h.inside) k)
 
   -- ---- the order
 
@@ -365,19 +365,19 @@ module _ (e : Ext) (o : Options) (x : List ℕ) (given : Given e o x) where
             let ps = map place_of (region_placed h.region) in
             let end = slice_index x (cycle_var (place_of l)).0 in
             let before = λ (v : VarId). nat_lt (slice_index x v.0) end in
-            let m = region_member e o x given h.number h.region l h.at h.inside in
+            let m = region_member e o x given.extended h.number h.region l h.at h.inside in
             let block = of_region h.region l h.inside in
             (and_iff (list_all (is_until end x) (map copy_use (with_kind is_copy ps)))
             (list_all before (map cycle_var (with_kind is_call_kind ps)))).0 (
               (all_iff (is_until end x) (map copy_use (with_kind is_copy ps))).0
                   (each_map _ copy_use (with_kind is_copy ps) ((kinds_of (λ p. is_until end x (copy_use p) ≡ true) is_copy
                   (region_placed h.region)).1 (λ q n c.
-                  let mq = region_member e o x given h.number h.region q h.at n in
+                  let mq = region_member e o x given.extended h.number h.region q h.at n in
                   copy_until l q k mq c ∙ (soon_iff (is_touch (tag_of e o x given q)) (cycle l) (cycle q)).0
                   (λ t. r.before_touch l q m mq k (of_region h.region q n ∙ sym block) (touch_is (tag_of e o x given q) t))))),
               (all_iff before (map cycle_var (with_kind is_call_kind ps))).0
                   (each_map _ cycle_var (with_kind is_call_kind ps)
                   ((kinds_of (λ p. before (cycle_var p) ≡ true) is_call_kind (region_placed h.region)).1 (λ q n c.
-                  let mq = region_member e o x given h.number h.region q h.at n in
+                  let mq = region_member e o x given.extended h.number h.region q h.at n in
                   call_until l q k c ∙ (lt_iff (cycle q) (cycle l)).0 (r.before_call l q m mq k (of_region h.region q n ∙ sym block) c)))),
             )

@@ -51,15 +51,16 @@ use Rattle.un_post.proofs.Blocks.{blocks, region_places, region_vars, region_clo
 use Rattle.un_post.proofs.CallBefores.{block_met}
 use Rattle.un_post.proofs.CallOrder.{kept}
 use Rattle.un_post.proofs.Crossed.{registers, asking_source, heads, tails}
-use Rattle.un_post.proofs.Ends.{region_end}
+use Rattle.un_model.proofs.Ends.{region_end}
 use Rattle.un_post.proofs.Facts.{Given, times}
 use Rattle.un_post.proofs.Filled.{heads_filled, tails_filled, end_behind}
 use Rattle.un_post.proofs.Latencies.{latencies}
-use Rattle.un_post.proofs.Meeting.{Met, all_each, joined_each}
+use Rattle.un_root.proofs.Eaches.{all_each}
+use Rattle.un_post.proofs.Meeting.{Met, joined_each}
 use Rattle.un_post.proofs.Memory.{kept_met}
 use Rattle.un_post.proofs.Packets.{share, no_room, whole_taken, sum_part}
 use Rattle.un_post.proofs.Placing.{place_of}
-use Rattle.un_post.proofs.Regions.{Ended, of_region, front_of, last_of, region_parts, front_stays, out_is}
+use Rattle.un_model.proofs.Regions.{Ended, of_region, front_of, last_of, region_parts, front_stays, out_is}
 use Rattle.un_post.proofs.Tests.{and_iff, eq_iff, le_iff}
 use Rattle.un_post.proofs.Whole.{posted_each}
 
@@ -315,7 +316,7 @@ module _ (e : Ext) (o : Options) (x : List ℕ) (given : Given e o x)
         k = position_of (blocks e o x) r mr
 
         en : Ended r
-        en = region_end e o x given k.0 r k.2
+        en = region_end e o x given.extended k.0 r k.2
 
         front : List Placed
         front = front_of r en

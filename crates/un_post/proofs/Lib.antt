@@ -13,7 +13,6 @@ pub mod Crowded
 pub mod Cycles
 pub mod DraftCalls
 pub mod Drafted
-pub mod Ends
 pub mod EnterLeave
 pub mod Exact
 pub mod ExactProps
@@ -50,7 +49,6 @@ pub mod Reading
 pub mod ReadingModel
 pub mod ReadingPressures
 pub mod Ready
-pub mod Regions
 pub mod RegisterBounds
 pub mod Relaxed
 pub mod RoomBeside

@@ -1,21 +1,16 @@
 -- Lists of constraints that an assignment meets, and entries of lists at a place.
 use Rattle.std.proofs.Common.{ℕ, zero, suc, ◌≡◌, ◌↔◌, ◌+◌, Bool, true, false, List, [], ◌∷◌, map, refl, ap, ◌∙◌, subst, arith, All}
-use Rattle.std.specs.List.{AllZip}
 use Rattle.std.specs.Prelude.{Some, slice_get, slice_index, ◌||◌, not}
-use Rattle.std.proofs.lemmas.List.Elements.{All-nil, All-cons}
 use Rattle.un_base.specs.declared.ids.VarId.{VarId}
 use Rattle.un_model.specs.Pairs.{places_from, joined}
 use Rattle.un_model.proofs.Lists.{Each, each_all, each_join, each_append, each_of, each_member}
 use Rattle.un_model.proofs.PlacedSchedules.{member_places, places_member}
+use Rattle.un_root.proofs.Eaches.{all_each}
 use Rattle.un_prop.specs.Choices.{passes_at}
 use Rattle.un_alt.specs.Registers.{value_at}
 use Rattle.un_kinds.specs.Constraints.{Constraint, meets, AllMet}
 
 -- ---- each of a list
-
-pub all_each : {X : Type 0} (P : X → Type 0) (xs : List X) → Each P xs → All P xs
-all_each P [] h = All-nil P
-all_each P (x ∷ xs) h = All-cons P x xs h.0 (all_each P xs h.1)
 
 pub each_joined : {X Y : Type 0} (P : Y → Type 0) (f : X → List Y) (xs : List X) → Each P (joined (map f xs)) → Each (λ x. Each P (f x)) xs
 each_joined P f [] h = tt
@@ -25,22 +20,9 @@ pub joined_each : {X Y : Type 0} (P : Y → Type 0) (f : X → List Y) (xs : Lis
 joined_each P f [] h = tt
 joined_each P f (x ∷ xs) h = each_join P (f x) (joined (map f xs)) h.0 (joined_each P f xs h.1)
 
-pub each_places : {X Y : Type 0} (P : Y → Type 0) (f : ℕ → X → Y) (xs : List X)
-    → ((j : ℕ) (x : X) → slice_get xs j ≡ Some x → P (f j x)) → Each P (places_from f 0 xs)
-each_places P f xs h = each_of P (places_from f 0 xs) (λ y m.
-    let r = places_member f 0 xs y m in
-    let z : r.0 ≡ 0 + r.0 = omega arith in
-    subst P (ap (λ j. f j r.1) z ∙ r.3) (h r.0 r.1 r.2))
-
 pub places_each : {X Y : Type 0} (P : Y → Type 0) (f : ℕ → X → Y) (xs : List X) → Each P (places_from f 0 xs) → (j : ℕ) (x : X)
     → slice_get xs j ≡ Some x → P (f j x)
 places_each P f xs h j x e = each_member P (places_from f 0 xs) (f j x) h (member_places f xs 0 j j x (omega arith) e)
-
-pub zip_each : {X Y : Type 0} (R : X → Y → Type 0) (P : X → Type 0) (xs : List X) (ys : List Y) → ((x : X) (y : Y) → R x y → P x)
-    → AllZip R xs ys → Each P xs
-zip_each R P [] ys f h = tt
-zip_each R P (x ∷ xs) [] f h = absurd h
-zip_each R P (x ∷ xs) (y ∷ ys) f h = (f x y h.0, zip_each R P xs ys f h.1)
 
 -- ---- what an assignment meets
 

@@ -40,7 +40,7 @@ use Rattle.un_post.proofs.Facts.{Given, times}
 use Rattle.un_post.proofs.Meeting.{Met, met_all, all_met, each_joined, joined_each}
 use Rattle.un_post.proofs.NoSharing.{all_pairwise, pairwise_parts}
 use Rattle.un_post.proofs.Placing.{place_of, place_here, places_are}
-use Rattle.un_post.proofs.Regions.{regions, placed_regions, of_region}
+use Rattle.un_model.proofs.Regions.{regions, placed_regions, of_region}
 use Rattle.un_post.proofs.Tests.{iff_then, le_iff, same_test}
 
 -- ---- lists

@@ -55,7 +55,7 @@ use Rattle.un_post.proofs.Congruences.{same_term}
 use Rattle.un_post.proofs.Crossed.{Keeping, across, by_definer, call_keeping, carried, crossing_spots, values_differ, values_many, wanted}
 use Rattle.un_post.proofs.Facts.{Given}
 use Rattle.un_post.proofs.Placing.{place_of}
-use Rattle.un_post.proofs.Regions.{of_region}
+use Rattle.un_model.proofs.Regions.{of_region}
 use Rattle.un_post.proofs.Tests.{and_iff}
 use Rattle.un_saved.specs.Names.{IsName}
 use Rattle.un_saved.specs.Saved.{keeps_places, saved_in}
@@ -63,7 +63,7 @@ use Rattle.un_saved.specs.Standing.{in_slots}
 use Rattle.un_saved.specs.declared.boundary.Boundary.TheVariants.{StartOf}
 use Rattle.un_saved.proofs.CallOwes.{ReloadsBehind, names_owe}
 use Rattle.un_saved.proofs.CallReloads.{call_crowds}
-use Rattle.un_saved.proofs.Ends.{region_good}
+use Rattle.un_model.proofs.Ends.{region_good}
 use Rattle.un_saved.proofs.OnePlace.{drop_get, in_is, live_in_is}
 use Rattle.un_rows.specs.Drafts.{owed, behind_call, call_draft, call_drafts, crossed_draft, drafts_by, is_crowded}
 use Rattle.un_rows.specs.Kept.{IsKeptBy}
@@ -220,7 +220,7 @@ module _ (e : Ext) (o : Options) (x : List ℕ) (given : Given e o x)
       first_gives : (v : TempId) (j : ℕ) → slice_get saved j ≡ Some v → First v
       first_gives v j live =
           let b : ExtBlock = r.owner in
-          let g = region_good e o x (solved e o x given schedule r mr) k r at in
+          let g = region_good e o x given.extended k r at in
           let parts = g.parts in
           let p = parts.0 in
           let h = parts.1 in

@@ -25,7 +25,8 @@ use Rattle.un_sites.specs.Rooms.{temp_at, temps_in, apart_in, aparts_of}
 use Rattle.un_post.proofs.Blocks.{blocks, region_places, region_vars, map_twice, places_in, regions_met}
 use Rattle.un_post.proofs.BlockTemps.{region_spots, temp_of, results_are, spots_by_blocks, spot_block, temp_is, on_is, start_is, end_is}
 use Rattle.un_post.proofs.Facts.{Given}
-use Rattle.un_post.proofs.Meeting.{Met, all_each}
+use Rattle.un_root.proofs.Eaches.{all_each}
+use Rattle.un_post.proofs.Meeting.{Met}
 use Rattle.un_post.proofs.Blocks.{rising}
 use Rattle.un_post.proofs.Tests.{and_iff}
 use Rattle.un_post.proofs.Whole.{ranges_are}

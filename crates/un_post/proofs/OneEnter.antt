@@ -15,9 +15,9 @@ use Rattle.un_model.specs.Variables.{var_at, var_count, ops_count}
 use Rattle.un_model.proofs.Lists.{Member, get_below, member_of_filter}
 use Rattle.un_model.proofs.Placed.{Placed, placed, Region, region_placed}
 use Rattle.un_model.proofs.PlacedSchedules.{all}
-use Rattle.un_post.proofs.Ends.{all_regions, region_member, filter_one}
+use Rattle.un_model.proofs.Ends.{all_regions, region_member, filter_one}
 use Rattle.un_post.proofs.Facts.{Given, good}
-use Rattle.un_post.proofs.Regions.{placed_regions, region_is, region_of, of_region}
+use Rattle.un_model.proofs.Regions.{placed_regions, region_is, region_of, of_region}
 
 pub filter_map : {A B : Type 0} (t : B → Bool) (f : A → B) (xs : List A) → filter t (map f xs) ≡ map f (filter (λ x. t (f x)) xs)
 filter_map t f [] = refl
@@ -46,7 +46,7 @@ one_list (x ∷ y ∷ xs) n = absurd (omega arith)
 
 module _ (e : Ext) (o : Options) (x : List ℕ) (given : Given e o x) where
   -- how many there are in a block
-  entered : (k : ℕ) (r : Region) → slice_get (all_regions e o x given) k ≡ Some r
+  entered : (k : ℕ) (r : Region) → slice_get (all_regions e o x given.extended) k ≡ Some r
       → length (filter enters (region_placed r)) ≡ one_if (k == 0)
   entered k r at =
       let own : ExtBlock = r.owner in
@@ -79,12 +79,12 @@ module _ (e : Ext) (o : Options) (x : List ℕ) (given : Given e o x) where
       let start = (region_is 0 0 0 e.blocks 0 r found.1).1 in
       record {
         enter = one.0;
-        member = region_member e o x given 0 r one.0 found.1 own.0;
+        member = region_member e o x given.extended 0 r one.0 found.1 own.0;
         is = own.1;
         block = omega arith;
         alone =
             ap (filter enters) (placed_regions 0 0 0 e.blocks)
-            ∙ filter_one enters region_placed (all_regions e o x given) 0 r found.1
+            ∙ filter_one enters region_placed (all_regions e o x given.extended) 0 r found.1
             (λ i s at n. empty_list (filter enters (region_placed s)) (entered i s at ∙ other i n))
             ∙ one.1;
       }

@@ -39,9 +39,10 @@ use Rattle.un_sites.specs.Rooms.{item_of, packets_in, packets_of}
 use Rattle.un_post.proofs.Blocks.{region_owner, blocks, region_places, region_vars, places_in, regions_met, in_all, rising}
 use Rattle.un_post.proofs.Cycles.{cycle_sits}
 use Rattle.un_post.proofs.Facts.{Given, falls, good_op, in_domains, acts, numbers}
-use Rattle.un_post.proofs.Meeting.{Met, all_each}
+use Rattle.un_root.proofs.Eaches.{all_each}
+use Rattle.un_post.proofs.Meeting.{Met}
 use Rattle.un_post.proofs.Placing.{place_of}
-use Rattle.un_post.proofs.Regions.{placed_regions, of_region}
+use Rattle.un_model.proofs.Regions.{placed_regions, of_region}
 use Rattle.un_post.proofs.Spared.{cycle_is}
 
 -- ---- resources

@@ -46,7 +46,7 @@ use Rattle.un_post.proofs.Facts.{Given, times}
 use Rattle.un_post.proofs.Meeting.{Met}
 use Rattle.un_post.proofs.OneEnter.{filter_map}
 use Rattle.un_post.proofs.Placing.{place_of}
-use Rattle.un_post.proofs.Regions.{of_region}
+use Rattle.un_model.proofs.Regions.{of_region}
 use Rattle.un_post.proofs.RoomOfBlocks.{has_room}
 use Rattle.un_post.proofs.Tests.{and_iff, le_iff, lt_iff}
 

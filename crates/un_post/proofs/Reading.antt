@@ -51,7 +51,8 @@ use Rattle.un_sites.specs.Rooms.{spared_at, item_of, each_two, operand_side, two
 use Rattle.un_sites.specs.declared.edges.Accesses.{Accesses}
 use Rattle.un_kinds.specs.Scopes.{vars_of, vars_in, own_var, alt_vars, end_var, op_vars, use_vars, leave_vars, rectangle_vars, clobber_vars}
 use Rattle.un_kinds.specs.Scopes.{item_vars, side_vars, task_vars}
-use Rattle.un_post.proofs.Meeting.{each_places, joined_each}
+use Rattle.un_root.proofs.Eaches.{each_places}
+use Rattle.un_post.proofs.Meeting.{joined_each}
 
 -- how many cycles a constraint counts over
 abbrev pub cycles_of : Constraint → ℕ

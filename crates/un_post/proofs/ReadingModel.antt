@@ -59,7 +59,8 @@ use Rattle.un_sites.specs.Saved.{crowded_of, edges_between, owed_by}
 use Rattle.un_kinds.specs.Scopes.{leave_vars}
 use Rattle.un_post.proofs.Blocks.{blocks, in_all, region_vars, places_in}
 use Rattle.un_post.proofs.Congruences.{in_is}
-use Rattle.un_post.proofs.Meeting.{joined_each, zip_each}
+use Rattle.un_root.proofs.Eaches.{zip_each}
+use Rattle.un_post.proofs.Meeting.{joined_each}
 use Rattle.un_post.proofs.Memory.{member_contains, arcs_by_regions}
 use Rattle.un_post.proofs.Placing.{place_of, places_are, place_here}
 use Rattle.un_post.proofs.Reading.{IsSound, PlaceIn, DefinerIn, MayBe, Within, OperandsIn, no_place_in, get_in, place_are, last_in}
@@ -69,7 +70,7 @@ use Rattle.un_post.proofs.Reading.{same_are, apart_are, spared_are, twos_are, le
 use Rattle.un_post.proofs.Reading.{arc_are, packet_are, length_are, below_are, joined_places}
 use Rattle.un_post.proofs.ReadingPressures.{pressure_are}
 use Rattle.un_post.proofs.RegisterBounds.{run_below}
-use Rattle.un_post.proofs.Regions.{over_regions, region_is, ended, last_of, front_of, region_parts}
+use Rattle.un_model.proofs.Regions.{over_regions, region_is, ended, last_of, front_of, region_parts}
 
 -- ---- what stands at a block's start stands nowhere else
 

@@ -40,7 +40,7 @@ use Rattle.un_kinds.specs.declared.any.AnyProp.TheVariants.{Before, Reads, Insid
 use Rattle.un_kinds.specs.declared.any.AnyProp.TheVariants.{Zeros, Spaces, Same, Home}
 use Rattle.un_kinds.specs.declared.any.AnyProp.TheVariants.{Frame, Apart, Clobber, Operands, PerCycle, Length, Live, Across, Counted}
 use Rattle.un_post.proofs.Failing.{each_stable, rounds_fail}
-use Rattle.un_post.proofs.Meeting.{all_each}
+use Rattle.un_root.proofs.Eaches.{all_each}
 use Rattle.un_post.proofs.Memory.{contains_member}
 use Rattle.un_post.proofs.ModelDomains.{domains_in_words, domains_live}
 use Rattle.un_post.proofs.Overfull.{not_overfull}

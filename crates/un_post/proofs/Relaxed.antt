@@ -58,10 +58,11 @@ use Rattle.un_post.proofs.Facts.{Given}
 use Rattle.un_post.proofs.Latencies.{placed_at}
 use Rattle.un_post.proofs.LeastValues.{leasts, leasts_in, strong_met}
 use Rattle.un_post.proofs.Limits.{limits}
-use Rattle.un_post.proofs.Meeting.{Met, met_all, all_met, all_each, each_joined, joined_each}
+use Rattle.un_root.proofs.Eaches.{all_each}
+use Rattle.un_post.proofs.Meeting.{Met, met_all, all_met, each_joined, joined_each}
 use Rattle.un_post.proofs.Memory.{one, arcs_by_regions, member_contains}
 use Rattle.un_post.proofs.Placing.{place_of, place_here, places_are}
-use Rattle.un_post.proofs.Regions.{regions}
+use Rattle.un_model.proofs.Regions.{regions}
 
 -- ---- the operations of a block
 

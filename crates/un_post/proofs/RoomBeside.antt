@@ -36,7 +36,7 @@ use Rattle.un_post.proofs.Lengths.{lengths_met, needs_as, timed_by}
 use Rattle.un_post.proofs.Meeting.{Met}
 use Rattle.un_post.proofs.Packets.{share, no_room, whole_taken, sum_part}
 use Rattle.un_post.proofs.Placing.{place_of}
-use Rattle.un_post.proofs.Regions.{of_region, out_is}
+use Rattle.un_model.proofs.Regions.{of_region, out_is}
 use Rattle.un_rows.specs.Rows.{own_ops, own_arcs}
 
 -- numbers that are not one

@@ -32,9 +32,9 @@ use Rattle.un_sites.specs.Places.{Place, block_places}
 use Rattle.un_sites.specs.Shares.{has_leave}
 use Rattle.un_post.proofs.Blocks.{blocks, places_in, region_places, region_vars}
 use Rattle.un_post.proofs.Facts.{Given}
-use Rattle.un_post.proofs.Meeting.{all_each}
+use Rattle.un_root.proofs.Eaches.{all_each}
 use Rattle.un_post.proofs.Memory.{member_contains}
-use Rattle.un_post.proofs.Regions.{over_regions, region_is}
+use Rattle.un_model.proofs.Regions.{over_regions, region_is}
 use Rattle.un_post.proofs.Tests.{and_iff}
 use Rattle.un_saved.specs.Joined.{is_at, joined_in}
 use Rattle.un_saved.specs.Reads.{reads_saved}

@@ -38,7 +38,7 @@ use Rattle.un_post.proofs.Blocks.{blocks, region_places, region_close, stands_in
 use Rattle.un_post.proofs.Facts.{Given}
 use Rattle.un_post.proofs.Filling.{first_of_several}
 use Rattle.un_post.proofs.Placing.{place_of}
-use Rattle.un_post.proofs.Regions.{of_region}
+use Rattle.un_model.proofs.Regions.{of_region}
 use Rattle.un_rows.specs.Drafts.{owed, arc, no_draft, before_calls, behind_calls, spilling, entry_draft, reloading, leaving, return_draft}
 use Rattle.un_rows.specs.Rows.{crossed_by, crossed_in}
 use Rattle.un_rows.specs.declared.draft.Owed.{Owed}

@@ -36,10 +36,10 @@ use Rattle.un_sites.specs.declared.edges.Edge.{Edge}
 use Rattle.un_post.proofs.Blocks.{blocks, region_places}
 use Rattle.un_post.proofs.Congruences.{member_contains}
 use Rattle.un_post.proofs.Crowded.{InSlot, Accesses_by, saved_count, stays, crowded_slot, end_spills, start_reloads}
-use Rattle.un_post.proofs.Ends.{all_regions}
+use Rattle.un_model.proofs.Ends.{all_regions}
 use Rattle.un_post.proofs.Facts.{Given}
 use Rattle.un_post.proofs.Filling.{none_of}
-use Rattle.un_post.proofs.Regions.{region_is, region_of}
+use Rattle.un_model.proofs.Regions.{region_is, region_of}
 use Rattle.un_post.proofs.SavedLists.{drop_get, leaving, marked_passes}
 use Rattle.un_post.proofs.Tests.{and_iff}
 
@@ -64,8 +64,8 @@ module _ (e : Ext) (o : Options) (x : List ℕ) (given : Given e o x)
 
   -- ---- over an edge
 
-  module _ (k : ℕ) (r : Region) (at : slice_get (all_regions e o x given) k ≡ Some r) (l : ℕ) (s : Region)
-      (there : slice_get (all_regions e o x given) l ≡ Some s)
+  module _ (k : ℕ) (r : Region) (at : slice_get (all_regions e o x given.extended) k ≡ Some r) (l : ℕ) (s : Region)
+      (there : slice_get (all_regions e o x given.extended) l ≡ Some s)
       (leads : Member l (targets_of k (let a : ExtBlock = r.owner in term_of a.ops)))
     where
       abbrev a : ExtBlock
@@ -134,7 +134,7 @@ module _ (e : Ext) (o : Options) (x : List ℕ) (given : Given e o x)
   -- a block that has a saved value in a slot, from its start to its end
   pub record Slotted (l : ℕ) : Type 0 where
     pub region : Region
-    pub at : slice_get (all_regions e o x given) l ≡ Some region
+    pub at : slice_get (all_regions e o x given.extended) l ≡ Some region
     pub keeps : keeps_places region.owner ≡ true
     pub in_slot : InSlot e o x given schedule region
 
@@ -148,7 +148,7 @@ module _ (e : Ext) (o : Options) (x : List ℕ) (given : Given e o x)
   abbrev Joins : ℕ → ℕ → Type 0
   Joins k l = (d : Edge) × (Member d (edges_between e.blocks)) × (((d.from ≡ k) × (d.to ≡ l)) ⊎ ((d.from ≡ l) × (d.to ≡ k)))
 
-  kept_region : (l : ℕ) → is_marked keeping l ≡ true → (s : Region) × (slice_get (all_regions e o x given) l ≡ Some s)
+  kept_region : (l : ℕ) → is_marked keeping l ≡ true → (s : Region) × (slice_get (all_regions e o x given.extended) l ≡ Some s)
       × (keeps_places s.owner ≡ true)
   kept_region l kept =
       let found = marked_passes keeps_places e.blocks l kept in
@@ -159,7 +159,7 @@ module _ (e : Ext) (o : Options) (x : List ℕ) (given : Given e o x)
 
   -- where an edge leaves the block of a region, its end leads there
   leads_from : (d : Edge) → Member d (edges_between e.blocks) → (k l : ℕ) → d.from ≡ k → d.to ≡ l → (r : Region)
-      → slice_get (all_regions e o x given) k ≡ Some r → Member l (targets_of k (let a : ExtBlock = r.owner in term_of a.ops))
+      → slice_get (all_regions e o x given.extended) k ≡ Some r → Member l (targets_of k (let a : ExtBlock = r.owner in term_of a.ops))
   leads_from d m k l from to r at =
       let f = leaving 0 e.blocks d m in
       let is = f.from in
@@ -246,7 +246,7 @@ module _ (e : Ext) (o : Options) (x : List ℕ) (given : Given e o x)
     abbrev k : ℕ
     k = let i = position_of (blocks e o x) r mr in i.0
 
-    at : slice_get (all_regions e o x given) k ≡ Some r
+    at : slice_get (all_regions e o x given.extended) k ≡ Some r
     at = let i = position_of (blocks e o x) r mr in i.2
 
     number_is : r.block ≡ k

@@ -46,7 +46,7 @@ use Rattle.un_post.proofs.Facts.{Given, numbered, times, definer_is}
 use Rattle.un_post.proofs.Meeting.{Met}
 use Rattle.un_post.proofs.NoSharing.{all_pass}
 use Rattle.un_post.proofs.Placing.{place_of, definer_here}
-use Rattle.un_post.proofs.Regions.{of_region}
+use Rattle.un_model.proofs.Regions.{of_region}
 use Rattle.un_post.proofs.Tests.{and_iff}
 use Rattle.un_post.proofs.Users.{user_at, user_also, users_in, user_reads}
 use Rattle.un_post.proofs.Whole.{issues_each, ranges_each}

@@ -24,7 +24,8 @@ use Rattle.un_model.proofs.PlacedSchedules.{member_places}
 use Rattle.un_kinds.specs.Constraints.{Constraint, AllMet}
 use Rattle.un_sites.specs.Places.{Place, Definer, Asked, places_of, definers_of, definers_at, definer_or, registers_at, asked, asked_by}
 use Rattle.un_sites.specs.Postings.{over_places, over_operands}
-use Rattle.un_post.proofs.Meeting.{all_each, each_joined, joined_each, each_places, places_each, Met, met_all, all_met}
+use Rattle.un_root.proofs.Eaches.{all_each, each_places}
+use Rattle.un_post.proofs.Meeting.{each_joined, joined_each, places_each, Met, met_all, all_met}
 use Rattle.un_post.proofs.Placing.{place_of, definer_at, places_are, definer_among}
 use Rattle.un_post.proofs.Facts.{Given, numbered}
 

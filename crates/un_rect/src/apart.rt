@@ -6,8 +6,8 @@ ghost use Rattle.un_prop.specs.LastLaws.{Ascend};
 ghost use Rattle.un_rect.specs.Apart.{pair_holds, ApartVars};
 
 use crate::checks::{are_apart, check_all};
-use crate::extents::{NOTED, no_extent, note};
-use crate::left::nothing_left;
+use crate::extents::{Extent, FEW, MANY, SOME, no_extent, note};
+use crate::left::{Left, nothing_left};
 use crate::{clashes, orders};
 use un_base::ids::VarId;
 use un_domains::window::Window;
@@ -64,6 +64,89 @@ impl Predicate for Apart {
     ghost looks = { λ p x y same. apart_looks p.vars p.temps p.among x y same };
 }
 
+impl Apart {
+    ghost use Rattle.un_domains.specs.Sets.{NoneEmpty};
+    ghost use Rattle.un_prop.specs.Pruning.{IsPrune, HasRoom};
+    ghost use Rattle.un_prop.specs.Rounds.{HasVars};
+    ghost use Rattle.un_rect.specs.Apart.{apart_cut};
+
+    /// Takes values away, by notes of as many temporaries as there is room for.
+    fn keep_noted(
+        &self,
+        w: &mut Window<'_>,
+        scratch: &mut Scratch,
+        extents: &mut [Extent],
+        left: &mut [Left],
+    ) -> Pruned
+        requires vars { w.old.vars.now ≡ self.now.vars }
+        requires known { HasVars self.now.vars w.old.store.now.sets }
+        requires live { NoneEmpty w.old.store.now.sets }
+        requires room { HasRoom (length w.old.store.now.sets) 0 scratch.old }
+        ensures prune { IsPrune self.now.vars (apart_cut self.now.vars self.now.temps w.old.store.now.sets) w.old.store.now
+            w.new.store.now result }
+        ensures fixed { length scratch.new.fixed.items ≡ length scratch.old.fixed.items }
+        ensures cycles { length scratch.new.cycles.items ≡ length scratch.old.cycles.items }
+        ensures same_reference { w.new.store.ghost_name ≡ w.old.store.ghost_name }
+    {
+        let temps = self.temps.as_slice();
+        note(w, temps, extents);
+        let first = clashes::keep_all(w, Pruned::Same, temps, extents);
+        let second = orders::keep_all(w, first, temps, extents);
+        check_all(w, second, temps, left, scratch.fixed.as_mut_slice())
+    }
+
+    /// The same with room for few.
+    fn keep_few(&self, w: &mut Window<'_>, scratch: &mut Scratch) -> Pruned
+        requires vars { w.old.vars.now ≡ self.now.vars }
+        requires known { HasVars self.now.vars w.old.store.now.sets }
+        requires live { NoneEmpty w.old.store.now.sets }
+        requires room { HasRoom (length w.old.store.now.sets) 0 scratch.old }
+        ensures prune { IsPrune self.now.vars (apart_cut self.now.vars self.now.temps w.old.store.now.sets) w.old.store.now
+            w.new.store.now result }
+        ensures fixed { length scratch.new.fixed.items ≡ length scratch.old.fixed.items }
+        ensures cycles { length scratch.new.cycles.items ≡ length scratch.old.cycles.items }
+        ensures same_reference { w.new.store.ghost_name ≡ w.old.store.ghost_name }
+    {
+        let mut extents = [no_extent(); FEW];
+        let mut left = [nothing_left(); FEW];
+        self.keep_noted(w, scratch, &mut extents, &mut left)
+    }
+
+    /// With room for some.
+    fn keep_some(&self, w: &mut Window<'_>, scratch: &mut Scratch) -> Pruned
+        requires vars { w.old.vars.now ≡ self.now.vars }
+        requires known { HasVars self.now.vars w.old.store.now.sets }
+        requires live { NoneEmpty w.old.store.now.sets }
+        requires room { HasRoom (length w.old.store.now.sets) 0 scratch.old }
+        ensures prune { IsPrune self.now.vars (apart_cut self.now.vars self.now.temps w.old.store.now.sets) w.old.store.now
+            w.new.store.now result }
+        ensures fixed { length scratch.new.fixed.items ≡ length scratch.old.fixed.items }
+        ensures cycles { length scratch.new.cycles.items ≡ length scratch.old.cycles.items }
+        ensures same_reference { w.new.store.ghost_name ≡ w.old.store.ghost_name }
+    {
+        let mut extents = [no_extent(); SOME];
+        let mut left = [nothing_left(); SOME];
+        self.keep_noted(w, scratch, &mut extents, &mut left)
+    }
+
+    /// With room for many.
+    fn keep_many(&self, w: &mut Window<'_>, scratch: &mut Scratch) -> Pruned
+        requires vars { w.old.vars.now ≡ self.now.vars }
+        requires known { HasVars self.now.vars w.old.store.now.sets }
+        requires live { NoneEmpty w.old.store.now.sets }
+        requires room { HasRoom (length w.old.store.now.sets) 0 scratch.old }
+        ensures prune { IsPrune self.now.vars (apart_cut self.now.vars self.now.temps w.old.store.now.sets) w.old.store.now
+            w.new.store.now result }
+        ensures fixed { length scratch.new.fixed.items ≡ length scratch.old.fixed.items }
+        ensures cycles { length scratch.new.cycles.items ≡ length scratch.old.cycles.items }
+        ensures same_reference { w.new.store.ghost_name ≡ w.old.store.ghost_name }
+    {
+        let mut extents = [no_extent(); MANY];
+        let mut left = [nothing_left(); MANY];
+        self.keep_noted(w, scratch, &mut extents, &mut left)
+    }
+}
+
 impl Propagator for Apart {
     ghost use Rattle.un_rect.specs.Apart.{apart_cut, apart_parts, ApartStrong};
     ghost use Rattle.un_rect.specs.PartsWithin.{apart_within};
@@ -78,13 +161,13 @@ impl Propagator for Apart {
     ghost span = { λ p. 0 };
 
     fn prune_in(&self, w: &mut Window<'_>, scratch: &mut Scratch) -> Pruned {
-        let temps = self.temps.as_slice();
-        let mut extents = [no_extent(); NOTED];
-        note(w, temps, &mut extents);
-        let first = clashes::keep_all(w, Pruned::Same, temps, &mut extents);
-        let second = orders::keep_all(w, first, temps, &mut extents);
-        let mut left = [nothing_left(); NOTED];
-        check_all(w, second, temps, &mut left, scratch.fixed.as_mut_slice())
+        if self.temps.len() <= FEW {
+            return self.keep_few(w, scratch);
+        }
+        if self.temps.len() <= SOME {
+            return self.keep_some(w, scratch);
+        }
+        self.keep_many(w, scratch)
     }
 
     ghost keeps = { λ p s x k full there holds. apart_keeps p.vars p.ascend p.temps p.among s x k there holds };

@@ -451,7 +451,7 @@ domains_are m model extended fit options =
     (all_each IsDomain (domains_of own_horizon m.ext m.options) (each_more IsWordDomain IsDomain (domains_of own_horizon m.ext m.options)
     (λ d g. g.domain) (domains_each m.ext m.options extended fit options)))
 
-some_each : (ds : List Domain) → Each IsWordDomain ds → NoneEmpty (map values_of ds)
+pub some_each : (ds : List Domain) → Each IsWordDomain ds → NoneEmpty (map values_of ds)
 some_each [] h v lt = absurd (omega arith)
 some_each (d ∷ ds) h zero lt = let g = h.0 in g.domain.some
 some_each (d ∷ ds) h (suc v) lt = some_each ds h.1 v (omega arith)

@@ -46,8 +46,8 @@ use Rattle.un_saved.specs.Saved.{saved_in, saved_out, end_operands, hands_own, r
 use Rattle.un_saved.specs.Standing.{place_at, handed_at, is_slot, in_slots}
 use Rattle.un_saved.specs.declared.boundary.Boundary.{Boundary}
 use Rattle.un_saved.specs.declared.boundary.Boundary.TheVariants.{EndOf}
-use Rattle.un_saved.proofs.Regions.{region_is, region_of, of_region}
-use Rattle.un_saved.proofs.Ends.{all_regions, region_end, region_good, region_member, the_end, last_member, end_reads, end_read}
+use Rattle.un_model.proofs.Regions.{region_is, region_of, of_region}
+use Rattle.un_model.proofs.Ends.{all_regions, region_end, region_good, region_member, the_end, last_member, end_reads, end_read}
 use Rattle.un_saved.proofs.OnePlace.{and_both, drop_get, end_is, in_is, live_in_is, saved_at, saved_number}
 
 -- ---- lists
@@ -89,12 +89,12 @@ module _ (e : Ext) (o : Options) (values : List ℕ) (solved : Solved e o values
       count Enter t = absurd (cc t)
       count Leave t = absurd (cc t)
 
-  module _ (k : ℕ) (r : Region) (at : slice_get (all_regions e o values solved) k ≡ Some r) where
+  module _ (k : ℕ) (r : Region) (at : slice_get (all_regions e o values solved.extended) k ≡ Some r) where
     abbrev pub last : Placed
-    last = the_end e o values solved k r at
+    last = the_end e o values solved.extended k r at
 
     pub all_last : Member last (all e o values)
-    all_last = last_member e o values solved k r at
+    all_last = last_member e o values solved.extended k r at
 
     pub block_is : slice_get e.blocks k ≡ Some r.owner
     block_is = (region_is 0 0 0 e.blocks k r at).0
@@ -113,7 +113,7 @@ module _ (e : Ext) (o : Options) (values : List ℕ) (solved : Solved e o values
     begins : First
     begins =
         let own : ExtBlock = r.owner in
-        let g = region_good e o values solved k r at in
+        let g = region_good e o values solved.extended k r at in
         let parts = g.parts in
         let p = parts.0 in
         let h = parts.1 in
@@ -123,7 +123,7 @@ module _ (e : Ext) (o : Options) (values : List ℕ) (solved : Solved e o values
         let got = placed_get r.block own (var_at (r.first + ops_count own.ops)) r.number r.first 0 own.ops start here in
         record {
           first = got.0;
-          member = region_member e o values solved k r got.0 at (member_at (region_placed r) 0 got.0 got.1);
+          member = region_member e o values solved.extended k r got.0 at (member_at (region_placed r) 0 got.0 got.1);
           kind = ap (λ (op : ExtOp). op.kind) got.2 ∙ kind;
           results = live_in_is own.ops _ start h.whole kind ∙ sym (ap (λ (op : ExtOp). op.results) got.2);
         }
@@ -184,12 +184,12 @@ module _ (e : Ext) (o : Options) (values : List ℕ) (solved : Solved e o values
         by None h =
             let q = last in
             let none : slice_get (live_out_reads k (reads_of (model_of e o) values)) i ≡ None =
-            ap (λ (rs : List Read). slice_get rs i) (end_reads e o values solved k r at)
+            ap (λ (rs : List Read). slice_get rs i) (end_reads e o values solved.extended k r at)
             ∙ places_none (read_of values (issue_at values q) (vars_of q)) 0 q.op.operands i h in
             let z : None ≡ Some reg = sym (ap (register_read ranges) none) ∙ is in
             absurd (cc z)
         by (Some y) h =
-            let en = region_end e o values solved k r at in
+            let en = region_end e o values solved.extended k r at in
             let active = reads_active e o values solved last i y all_last (ap is_mandatory en.is_end) h in
             let read = reading e o values solved last i y all_last active h in
             let d = read.2 in
@@ -197,7 +197,7 @@ module _ (e : Ext) (o : Options) (values : List ℕ) (solved : Solved e o values
             let range = range_here e o values (numbered e o values solved) s d.member in
             let both : Some (reg_of e o values solved s) ≡ Some reg =
             sym (register_is s d.member) ∙ ap (register_of ranges) d.is
-            ∙ sym (ap (register_read ranges) (end_read e o values solved k r at i y h)) ∙ is in
+            ∙ sym (ap (register_read ranges) (end_read e o values solved.extended k r at i y h)) ∙ is in
             record {
               operand = y;
               at_end = h;
@@ -211,4 +211,4 @@ module _ (e : Ext) (o : Options) (values : List ℕ) (solved : Solved e o values
 
     -- what its end reads are these operands
     pub end_reads_out : (let own : ExtBlock = r.owner in end_operands own.ops) ≡ (let q = last in q.op.operands)
-    end_reads_out = let en = region_end e o values solved k r at in ap end_operands en.whole ∙ end_is en.front en.out en.inner en.is_end
+    end_reads_out = let en = region_end e o values solved.extended k r at in ap end_operands en.whole ∙ end_is en.front en.out en.inner en.is_end

@@ -33,9 +33,9 @@ use Rattle.un_saved.specs.Saved.{saved_in, keeps_places}
 use Rattle.un_saved.specs.Standing.{in_slots}
 use Rattle.un_saved.specs.declared.boundary.Boundary.TheVariants.{StartOf}
 use Rattle.un_saved.proofs.CallReloads.{names_in_slots, names_reload, ReloadsName}
-use Rattle.un_saved.proofs.Ends.{all_regions}
+use Rattle.un_model.proofs.Ends.{all_regions}
 use Rattle.un_saved.proofs.OnePlace.{saved_number}
-use Rattle.un_saved.proofs.Regions.{placed_regions, region_is}
+use Rattle.un_model.proofs.Regions.{placed_regions, region_is}
 
 some_instr : (i : Option Op) → is_some i ≡ true → (op : Op) × (i ≡ Some op)
 some_instr None h = absurd (cc h)
@@ -57,7 +57,7 @@ module _ (e : Ext) (o : Options) (values : List ℕ) (solved : Solved e o values
       let within = placed.0 in
       within.1
 
-  module _ (k : ℕ) (r : Region) (at : slice_get (all_regions e o values solved) k ≡ Some r) (keeps : keeps_places r.owner ≡ true)
+  module _ (k : ℕ) (r : Region) (at : slice_get (all_regions e o values solved.extended) k ≡ Some r) (keeps : keeps_places r.owner ≡ true)
       (c : Placed) (mc : Member c (region_placed r)) (call : is_call_kind c.op.kind ≡ true) where
     -- a copy that reloads behind the call, ready for an operation before the block's end
     pub record ReloadsBehind (p : Placed) : Type 0 where
@@ -137,9 +137,9 @@ module _ (e : Ext) (o : Options) (values : List ℕ) (solved : Solved e o values
       (length (saved_registers e.table))) ≤ length vs + length (saved_registers e.table)
       → n ≤ count_by (reloads_behind e.table c.block (cycle c)) (issues_of (model_of e o) values)
   call_counted c vs n m keeps call names few =
-      let found = joined_member region_placed (all_regions e o values solved) c (subst (Member c) (placed_regions 0 0 0 e.blocks) m) in
+      let found = joined_member region_placed (all_regions e o values solved.extended) c (subst (Member c) (placed_regions 0 0 0 e.blocks) m) in
       let r : Region = found.0 in
-      let i = position_of (all_regions e o values solved) r found.1 in
+      let i = position_of (all_regions e o values solved.extended) r found.1 in
       let k = i.0 in
       let own : ExtBlock = r.owner in
       let j = position_of (region_placed r) c found.2 in

@@ -45,8 +45,8 @@ use Rattle.un_saved.specs.Saved.{saved_in, saved_out, end_operands, keeps_places
 use Rattle.un_saved.specs.Standing.{place_at, taken_at, is_slot, in_slots}
 use Rattle.un_saved.specs.declared.boundary.Boundary.{Boundary}
 use Rattle.un_saved.specs.declared.boundary.Boundary.TheVariants.{StartOf}
-use Rattle.un_saved.proofs.Regions.{of_region}
-use Rattle.un_saved.proofs.Ends.{all_regions, region_end, region_member, filter_append}
+use Rattle.un_model.proofs.Regions.{of_region}
+use Rattle.un_model.proofs.Ends.{all_regions, region_end, region_member, filter_append}
 use Rattle.un_saved.proofs.Bounds.{last, all_last, block_is, end_reads_out, Starts, starts, saved_apart, register_is}
 use Rattle.un_saved.proofs.EntrySpills.{range_differ, range_below, count_filter}
 use Rattle.un_saved.proofs.OnePlace.{drop_get, alone_at, chosen, saved_at, saved_number}
@@ -77,13 +77,13 @@ no_call : (kind : ExtKind) → kind ≡ In → is_call_kind kind ≡ true → �
 no_call kind k call = let z : false ≡ true = sym (ap is_call_kind k) ∙ call in cc z
 
 module _ (e : Ext) (o : Options) (values : List ℕ) (solved : Solved e o values) (k : ℕ) (r : Region)
-    (at : slice_get (all_regions e o values solved) k ≡ Some r) (keeps : keeps_places r.owner ≡ true) (c : Placed)
+    (at : slice_get (all_regions e o values solved.extended) k ≡ Some r) (keeps : keeps_places r.owner ≡ true) (c : Placed)
     (mc : Member c (region_placed r)) (call : is_call_kind c.op.kind ≡ true) where
   abbrev cycle : Placed → ℕ
   cycle p = cycle_at e o values solved p
 
   all_c : Member c (all e o values)
-  all_c = region_member e o values solved k r c at mc
+  all_c = region_member e o values solved.extended k r c at mc
 
   one_block : (let q = last e o values solved k r at in q.block ≡ c.block)
   one_block = sym (of_region r c mc)
@@ -94,7 +94,7 @@ module _ (e : Ext) (o : Options) (values : List ℕ) (solved : Solved e o values
       let q = last e o values solved k r at in
       let v = vars_of c in
       let w = vars_of q in
-      let en = region_end e o values solved k r at in
+      let en = region_end e o values solved.extended k r at in
       let placed = subst (λ (i : Option Op). IfSome i (IsPlacedAs (cycle c) (end_of values c))) (call_instr c.op.kind
       (value_by values v.instr) call) (placed_issue e o values solved c all_c) in
       let within = placed.0 in
@@ -119,7 +119,7 @@ module _ (e : Ext) (o : Options) (values : List ℕ) (solved : Solved e o values
       let b : ExtBlock = r.owner in
       let q = last e o values solved k r at in
       let mq = all_last e o values solved k r at in
-      let en = region_end e o values solved k r at in
+      let en = region_end e o values solved.extended k r at in
       let found = saved_at e o values solved k b (block_is e o values solved k r at) j lt in
       let v = found.0 in
       let got = alone_at (saved_in b) (saved_out b) j v keeps found.1 in

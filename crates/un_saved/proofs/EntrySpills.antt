@@ -46,8 +46,8 @@ use Rattle.un_saved.specs.Saved.{saved_in, saved_out, end_operands, hands_own, r
 use Rattle.un_saved.specs.Standing.{place_at, handed_at, is_slot, in_slots}
 use Rattle.un_saved.specs.declared.boundary.Boundary.{Boundary}
 use Rattle.un_saved.specs.declared.boundary.Boundary.TheVariants.{EndOf}
-use Rattle.un_saved.proofs.Regions.{region_is, region_of, of_region}
-use Rattle.un_saved.proofs.Ends.{all_regions, region_end, region_good, region_member, the_end, last_member, end_reads, end_read}
+use Rattle.un_model.proofs.Regions.{region_is, region_of, of_region}
+use Rattle.un_model.proofs.Ends.{all_regions, region_end, region_good, region_member, the_end, last_member, end_reads, end_read}
 use Rattle.un_saved.proofs.OnePlace.{and_both, drop_get, end_is, in_is, live_in_is, saved_at, saved_number}
 use Rattle.un_saved.proofs.Bounds.{last, all_last, block_is, number_is, end_reads_out, handed, saved_apart, one_result}
 
@@ -122,7 +122,7 @@ module _ (e : Ext) (o : Options) (values : List ℕ) (solved : Solved e o values
     pub late : 1 < cycle p
     pub before : cycle p < end_of values p
 
-  module _ (r : Region) (at : slice_get (all_regions e o values solved) 0 ≡ Some r) (own : hands_own r.owner ≡ true) where
+  module _ (r : Region) (at : slice_get (all_regions e o values solved.extended) 0 ≡ Some r) (own : hands_own r.owner ≡ true) where
     entry_block : r.block ≡ 0
     entry_block = number_is e o values solved 0 r at
 
@@ -205,7 +205,7 @@ module _ (e : Ext) (o : Options) (values : List ℕ) (solved : Solved e o values
         let within = placed.0 in
         let q = last e o values solved 0 r at in
         let mq = all_last e o values solved 0 r at in
-        let en = region_end e o values solved 0 r at in
+        let en = region_end e o values solved.extended 0 r at in
         let w = vars_of q in
         let end : cycle q ≡ end_of values q = ap (λ (kind : ExtKind). cycle_by values (end_of values q) kind w) en.is_end in
         let same = same_end e o values solved p q m mq (x.block ∙ sym last_block) in

@@ -6,13 +6,13 @@ use Rattle.un_ir.specs.declared.extended.Ext.{Ext}
 use Rattle.un_model.specs.declared.model.Options.{Options}
 use Rattle.un_model.proofs.Placed.{Region}
 use Rattle.un_model.proofs.Readings.{Solved}
-use Rattle.un_saved.proofs.Regions.{region_is, region_of}
-use Rattle.un_saved.proofs.Ends.{all_regions}
+use Rattle.un_model.proofs.Regions.{region_is, region_of}
+use Rattle.un_model.proofs.Ends.{all_regions}
 
 module _ (e : Ext) (o : Options) (values : List ℕ) (solved : Solved e o values) where
   pub record Here (k : ℕ) (b : ExtBlock) : Type 0 where
     pub region : Region
-    pub at : slice_get (all_regions e o values solved) k ≡ Some region
+    pub at : slice_get (all_regions e o values solved.extended) k ≡ Some region
     pub owner : b ≡ region.owner
     pub number : region.block ≡ k
 

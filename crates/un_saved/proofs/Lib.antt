@@ -1,7 +1,6 @@
 pub mod Bounds
 pub mod CallOwes
 pub mod CallReloads
-pub mod Ends
 pub mod EntrySpills
 pub mod Here
 pub mod Joining
@@ -11,6 +10,5 @@ pub mod OnePlace
 pub mod OwedCalls
 pub mod OwedReloads
 pub mod OwedSpills
-pub mod Regions
 pub mod ReturnReloads
 pub mod Saving

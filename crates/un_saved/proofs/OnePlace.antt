@@ -40,8 +40,8 @@ use Rattle.un_saved.specs.Standing.{place_at, taken_at, handed_at, Leads, Keeps,
 use Rattle.un_saved.specs.declared.boundary.Boundary.{Boundary}
 use Rattle.un_saved.specs.declared.boundary.Boundary.TheVariants.{StartOf, EndOf}
 use Rattle.un_saved.specs.Standing.{within, is_slot, in_slots}
-use Rattle.un_saved.proofs.Regions.{region_is, region_of, Ended}
-use Rattle.un_saved.proofs.Ends.{all_regions, region_end, the_end, last_member, end_read}
+use Rattle.un_model.proofs.Regions.{region_is, region_of, Ended}
+use Rattle.un_model.proofs.Ends.{all_regions, region_end, the_end, last_member, end_read}
 
 -- ---- lists
 
@@ -204,8 +204,8 @@ module _ (e : Ext) (o : Options) (values : List ℕ) (solved : Solved e o values
       let rt = region.1 in
       let both : Some r.owner ≡ Some b = sym (region_is 0 0 0 e.blocks k r rt).0 ∙ keeping.at in
       let same : r.owner ≡ b = cc both in
-      let en = region_end e o values solved k r rt in
-      let q = the_end e o values solved k r rt in
+      let en = region_end e o values solved.extended k r rt in
+      let q = the_end e o values solved.extended k r rt in
       let i = length b.live_out + j in
       let reads : end_operands b.ops ≡ q.op.operands =
       ap (λ (c : ExtBlock). end_operands c.ops) (sym same) ∙ ap end_operands en.whole ∙ end_is en.front en.out en.inner en.is_end in
@@ -213,8 +213,8 @@ module _ (e : Ext) (o : Options) (values : List ℕ) (solved : Solved e o values
       ∙ sym (drop_get (length b.live_out) j (end_operands b.ops)) ∙ got.1 in
       start_is k b keeping.at j v.0 v.1
       ∙ ap (register_of (the_ranges e o values))
-      (sym (chosen q i got.0 v.0 (last_member e o values solved k r rt) at_end got.2 en.is_end))
-      ∙ sym (ap (register_read (the_ranges e o values)) (end_read e o values solved k r rt i got.0 at_end))
+      (sym (chosen q i got.0 v.0 (last_member e o values solved.extended k r rt) at_end got.2 en.is_end))
+      ∙ sym (ap (register_read (the_ranges e o values)) (end_read e o values solved.extended k r rt i got.0 at_end))
       ∙ sym (end_is_handed k b keeping.at j)
 
   -- ---- over the function

@@ -44,8 +44,8 @@ use Rattle.un_saved.specs.Saved.{saved_in}
 use Rattle.un_saved.specs.Standing.{place_at, taken_at, is_slot, in_slots}
 use Rattle.un_saved.specs.declared.boundary.Boundary.{Boundary}
 use Rattle.un_saved.specs.declared.boundary.Boundary.TheVariants.{StartOf}
-use Rattle.un_saved.proofs.Regions.{of_region}
-use Rattle.un_saved.proofs.Ends.{all_regions, region_member}
+use Rattle.un_model.proofs.Regions.{of_region}
+use Rattle.un_model.proofs.Ends.{all_regions, region_member}
 use Rattle.un_saved.proofs.Bounds.{block_is, number_is, Starts, starts, saved_apart, register_is}
 use Rattle.un_saved.proofs.EntrySpills.{range_differ, range_below, count_filter, slot_register}
 use Rattle.un_saved.proofs.OnePlace.{and_both, saved_at, saved_number}
@@ -61,7 +61,7 @@ is_there None h = absurd (cc h)
 is_there (Some op) h = (op, refl)
 
 module _ (e : Ext) (o : Options) (values : List ℕ) (solved : Solved e o values) (k : ℕ) (r : Region)
-    (at : slice_get (all_regions e o values solved) k ≡ Some r) (read : reads_saved r.owner ≡ true) where
+    (at : slice_get (all_regions e o values solved.extended) k ≡ Some r) (read : reads_saved r.owner ≡ true) where
   abbrev cycle : Placed → ℕ
   cycle p = cycle_at e o values solved p
 
@@ -106,7 +106,7 @@ module _ (e : Ext) (o : Options) (values : List ℕ) (solved : Solved e o values
       let m = member_at (region_placed r) i.0 q got.1 in
       record {
         user = q;
-        member = region_member e o values solved k r q at m;
+        member = region_member e o values solved.extended k r q at m;
         block = of_region r q m;
         mandatory = two.0;
         place = n.0;

@@ -14,8 +14,6 @@ pub mod Idle
 pub mod TooSoon
 pub mod TooDear
 pub mod NotCongruent
-pub mod Regions
-pub mod Ends
 pub mod Alike
 pub mod Stepping
 pub mod Looks

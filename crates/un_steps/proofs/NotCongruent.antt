@@ -24,27 +24,27 @@ use Rattle.un_steps.specs.Rules.{IsNotCongruent, HasSuccessor, IsTakenElsewhere,
 use Rattle.un_steps.specs.Words.{alternative, IsNeverZero, regs}
 use Rattle.un_steps.proofs.Boxes.{some_of}
 use Rattle.un_steps.proofs.Choosing.{chosen, register_in, register_left}
-use Rattle.un_steps.proofs.Ends.{all_regions, region_end, the_end, end_read}
+use Rattle.un_model.proofs.Ends.{all_regions, region_end, the_end, end_read}
 use Rattle.un_steps.proofs.Grounds.{sure_active}
 use Rattle.un_steps.proofs.Placing.{operation_of}
-use Rattle.un_steps.proofs.Regions.{region_is, of_region, placed_regions, last_of, front_of, region_parts, front_stays, Ended, out_is}
+use Rattle.un_model.proofs.Regions.{region_is, of_region, placed_regions, last_of, front_of, region_parts, front_stays, Ended, out_is}
 
 module _ (e : Ext) (o : Options) (x : List ℕ) (h : Solved e o x) (s : Sets) (inside : IsIn x s) where
   -- the region at whose end an operation stands
   record AtEnd (q : Placed) : Type 0 where
     pub place : ℕ
     pub region : Region
-    pub listed : slice_get (all_regions e o x h) place ≡ Some region
+    pub listed : slice_get (all_regions e o x h.extended) place ≡ Some region
     pub number : q.block ≡ place
-    pub is : the_end e o x h place region listed ≡ q
+    pub is : the_end e o x h.extended place region listed ≡ q
     pub owner : slice_get e.blocks place ≡ Some q.owner
 
   at_end : (q : Placed) → Member q (all e o x) → is_out q.op.kind ≡ true → AtEnd q
   at_end q m out =
-      let regs = all_regions e o x h in
+      let regs = all_regions e o x h.extended in
       let r = joined_member region_placed regs q (subst (Member q) (placed_regions 0 0 0 e.blocks) m) in
       let k = position_of regs r.0 r.1 in
-      let en = region_end e o x h k.0 r.0 k.2 in
+      let en = region_end e o x h.extended k.0 r.0 k.2 in
       let is = region_is 0 0 0 e.blocks k.0 r.0 k.2 in
       let block = of_region r.0 q r.2 in
       let num = is.1 in
@@ -85,7 +85,7 @@ module _ (e : Ext) (o : Options) (x : List ℕ) (h : Solved e o x) (s : Sets) (i
       let ranges = the_ranges e o x in
       let handed : slice_get (live_out_reads en.place (reads_of (model_of e o) x)) i ≡ Some (read_of x (issue_at x q) (vars_of q) i operand) =
       subst (λ (p : Placed). slice_get p.op.operands i ≡ Some operand → slice_get (live_out_reads en.place (reads_of (model_of e o) x)) i ≡ Some
-      (read_of x (issue_at x p) (vars_of p) i operand)) en.is (end_read e o x h en.place en.region en.listed i operand) there in
+      (read_of x (issue_at x p) (vars_of p) i operand)) en.is (end_read e o x h.extended en.place en.region en.listed i operand) there in
       let left : register_read ranges (slice_get (live_out_reads en.place (reads_of (model_of e o) x)) (place_over q.owner b j)) ≡ register_of
       ranges t = ap (λ (n : ℕ). register_read ranges (slice_get (live_out_reads en.place (reads_of (model_of e o) x)) n)) over
       ∙ ap (register_read ranges) handed ∙ ap (register_of ranges) reads in

@@ -18,8 +18,6 @@ use Rattle.un_model.specs.Variables.{var_at, var_count, ops_count, block_count, 
 use Rattle.un_model.proofs.Lists.{Each, Member, each_all, each_join, each_more, place_of as position_of}
 use Rattle.un_model.proofs.Operations.{placed_is}
 use Rattle.un_model.proofs.Placed.{Placed, placed, blocks_placed, Region, region_placed}
-use Rattle.un_sites.specs.Places.{Place}
-use Rattle.un_sites.specs.Postings.{last_place}
 
 abbrev pub regions : ℕ → ℕ → ℕ → List ExtBlock → List Region
 regions b n first [] = []
@@ -187,8 +185,3 @@ pub front_stays : (b : ℕ) (owner : ExtBlock) (close : VarId) (n first : ℕ) (
     → Each (λ q. is_out q.op.kind ≡ false) (placed b owner close n first ops)
 front_stays b owner close n first [] h = tt
 front_stays b owner close n first (op ∷ ops) h = (h.0, front_stays b owner close (n + 1) (first + var_count op) ops h.1)
-
-pub last_append : (ps : List Place) (p : Place) → last_place (ps ++ p ∷ []) ≡ p
-last_append [] p = refl
-last_append (q ∷ []) p = refl
-last_append (q ∷ r ∷ ps) p = last_append (r ∷ ps) p

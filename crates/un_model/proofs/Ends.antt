@@ -12,7 +12,7 @@ use Rattle.un_ir.specs.declared.extended.Operand.{Operand}
 use Rattle.un_ir.specs.declared.extended.ExtBlock.{ExtBlock}
 use Rattle.un_ir.specs.declared.extended.Ext.{Ext}
 use Rattle.un_ir.specs.Linear.{is_out}
-use Rattle.un_ir.specs.Extended.{IsGoodExtBlock, IsGoodOperand, wants_of}
+use Rattle.un_ir.specs.Extended.{IsExtended, IsGoodExtBlock, IsGoodOperand, wants_of}
 use Rattle.un_model.specs.declared.model.Options.{Options}
 use Rattle.un_model.specs.declared.schedule.Read.{Read}
 use Rattle.un_model.specs.Congruences.{is_live_out, live_out_reads}
@@ -26,9 +26,10 @@ use Rattle.un_model.proofs.OpDomains.{get_places}
 use Rattle.un_model.proofs.Placed.{Placed, vars_of, issue_at, reads_at, reads_are, Region, region_placed}
 use Rattle.un_model.proofs.PlacedSchedules.{all, member_joined}
 use Rattle.un_model.proofs.Lists.{member_map}
-use Rattle.un_model.proofs.Readings.{Solved, good, placed_good, all_member}
-use Rattle.un_steps.proofs.Regions.{regions, placed_regions, region_is, of_region, Ended, ended, last_of, front_of, region_parts}
-use Rattle.un_steps.proofs.Regions.{front_stays}
+use Rattle.un_model.proofs.Operations.{GoodPlaced, all_good}
+use Rattle.un_model.proofs.Readings.{all_member}
+use Rattle.un_model.proofs.Regions.{regions, placed_regions, region_is, of_region, Ended, ended, last_of, front_of, region_parts}
+use Rattle.un_model.proofs.Regions.{front_stays}
 
 -- ---- filters
 
@@ -94,7 +95,7 @@ joined_twice g f (x ∷ xs) =
     ap joined (map-append g (f x) (joined (map f xs))) ∙ joined-append (map g (f x)) (map g (joined (map f xs)))
     ∙ ap (λ zs. joined (map g (f x)) ++ zs) (joined_twice g f xs)
 
-module _ (e : Ext) (o : Options) (x : List ℕ) (given : Solved e o x) where
+module _ (e : Ext) (o : Options) (x : List ℕ) (extended : IsExtended e) where
   abbrev pub all_regions : List Region
   all_regions = regions 0 0 0 e.blocks
 
@@ -110,7 +111,7 @@ module _ (e : Ext) (o : Options) (x : List ℕ) (given : Solved e o x) where
 
   pub region_good : (k : ℕ) (r : Region) → slice_get all_regions k ≡ Some r → IsGoodExtBlock e.table e.names e.blocks r.owner
   region_good k r at =
-      let g = good e o x given in
+      let g = extended.good in
       all_member (IsGoodExtBlock e.table e.names e.blocks) e.blocks r.owner g.each
       (member_at e.blocks k r.owner (region_is 0 0 0 e.blocks k r at).0)
 
@@ -169,7 +170,7 @@ module _ (e : Ext) (o : Options) (x : List ℕ) (given : Solved e o x) where
 
       by : (kind : ExtKind) → q.op.kind ≡ kind → is_out kind ≡ false → filter (is_live_out k) (reads_at x q) ≡ []
       by In h s =
-          let g = placed_good e o x given q m in
+          let g = each_member (GoodPlaced e (2 ^ 24) extended.good) (all e o x) q (all_good e (2 ^ 24) extended.good) m in
           let keeps = g.keeps in
           let none = empty g.before q.op.operands (subst (λ (c : ExtKind). AllZip (IsGoodOperand e.names e.blocks g.before) q.op.operands
           (wants_of e.table e.names e.blocks q.owner c q.op)) h keeps.operands) in
@@ -193,7 +194,7 @@ module _ (e : Ext) (o : Options) (x : List ℕ) (given : Solved e o x) where
     the_end = last_of r (region_end k r at)
 
     the_block : r.block ≡ k
-    the_block = let h = (region_is 0 0 0 e.blocks k r at).1 in omega arith
+    the_block = let at_is = (region_is 0 0 0 e.blocks k r at).1 in omega arith
 
     own : filter (is_live_out k) (reads_at x the_end) ≡ places_from (read_of x (issue_at x the_end) (vars_of the_end)) 0
         (let q = the_end in q.op.operands)
