@@ -1,6 +1,5 @@
 -- The log of a report's tree, and the check of a log: two texts have one accepted report, with one model, and so one answer.
-use Rattle.std.proofs.Common.{ℕ, ◌≡◌, ◌+◌, ◌≤◌, ◌⊎◌, inl, inr, Bool, List, IfOk, All, codes, length, refl, sym, ap, subst, ◌∙◌}
-use Rattle.std.proofs.lemmas.List.Elements.{All-weaker}
+use Rattle.std.proofs.Common.{ℕ, ◌≡◌, ◌≤◌, ◌⊎◌, inl, inr, Bool, List, IfOk, codes, length, refl, sym, ap, subst, ◌∙◌}
 use Rattle.std.specs.declared.option.Option.{Option}
 use Rattle.std.specs.declared.result.Result.{Result}
 use Rattle.std.specs.declared.result.Result.TheVariants.{Ok, Err}
@@ -9,17 +8,15 @@ use Rattle.un_base.specs.Lines.{pieces_of}
 use Rattle.un_check.proofs.CauseLemmas.{answer_told}
 use Rattle.un_check.proofs.OneModel.{model_one}
 use Rattle.un_check.specs.Causes.{Claim, IsRight, IsTold, claim_of, limit_of}
-use Rattle.un_check.specs.Verdicts.{Keeps}
 use Rattle.un_ir.specs.declared.function.Function.{Function}
 use Rattle.un_isa.specs.Versions.{table_of}
-use Rattle.un_isa.specs.declared.table.Table.{Table}
 use Rattle.un_judge.proofs.Comings.{comes_once}
 use Rattle.un_judge.specs.Judged.{IsJudged, closed_boxes}
 use Rattle.un_judge.specs.declared.verdict.StepVerdict.{StepVerdict}
 use Rattle.un_judge.specs.declared.verdict.StepVerdict.TheVariants.{Yes, BadStep, Short}
 use Rattle.un_logs.proofs.Walking.{stuck_once as one_stuck}
 use Rattle.un_logs.specs.Stuck.{IsFirstStuck}
-use Rattle.un_model.specs.Boxes.{IsBelow, root_of}
+use Rattle.un_model.specs.Boxes.{root_of}
 use Rattle.un_model.specs.declared.model.Model.{Model}
 use Rattle.un_model.specs.declared.model.Options.{Options}
 use Rattle.un_outside.specs.declared.status.NoCause.{NoCause}
@@ -34,7 +31,6 @@ use Rattle.un_report.specs.declared.report.Answered.{Answered}
 use Rattle.un_report.specs.declared.report.Report.{Report}
 use Rattle.un_report_reader.specs.Readings.{AreSame}
 use Rattle.un_runs.specs.Inputs.{first_part, second_part, middle_part, last_part}
-use Rattle.un_runs.specs.Refusals.{RefusesFunction}
 use Rattle.un_runs.specs.declared.refused.Refused.{Refused}
 use Rattle.un_runs.specs.declared.refused.Refused.TheVariants as RefusedBy
 use Rattle.un_top.proofs.Accepted.{one_report, same_claim}
@@ -43,12 +39,10 @@ use Rattle.un_top.specs.Behaviours.{EndsCheck, IsLogEnd, IsJudgeEnd, of_steps, o
 use Rattle.un_top.specs.Checks.{RefusesReport, no_line}
 use Rattle.un_top.specs.Runs.{IsLate, RefusesText, status_by}
 use Rattle.un_top.specs.Steps.{AreRead, IsAccepted, IsRefused, HasAccepted, IsRejected, IsLogged, IsLogOf, IsLogAccepted, IsLogTold, IsBadBehind}
-use Rattle.un_top.specs.Steps.{ComesTo, IsStuckAt, IsLog, IsBadAt, IsBadLog, HasNoLog, HasBadLog, IsLateBy, IsLateLog, IsLateTold, rules_by}
+use Rattle.un_top.specs.Steps.{ComesTo, IsStuckAt, IsLog, IsBadAt, HasNoLog, HasBadLog, IsLateBy, IsLateLog, IsLateTold, rules_by}
 use Rattle.un_top.specs.Steps.{IsGoodLog, IsWithoutLog, IsNotGood, RefusesBy}
 use Rattle.un_top.specs.declared.limits.TheConstants.{INPUT}
 use Rattle.un_top.specs.declared.output.Output.{Output}
-use Rattle.un_tree.specs.Covered.{Stands}
-use Rattle.un_tree.specs.Waits.{IsStrict, visits_of}
 use Rattle.un_tree.specs.declared.node.Node.{Node}
 
 -- ---- an answer to one report is that to the same report
@@ -78,12 +72,6 @@ accepted_by f r m told is = record {
   right = subst (λ (n : Model). IsRight f.name n (claim_of r)) (model_one (table_of r.version) f r.options told.model m told.is_model is)
       told.by_model;
 }
-
--- the tree of an accepted report has both sides at each branch
-pub strict_in : (name : List ℕ) (m : Model) (r : Report) → IsRight name m (claim_of r)
-    → All IsStrict (visits_of (root_of m) r.tree.nodes.items)
-strict_in name m r h =
-    All-weaker (Keeps m (limit_of r.answer)) IsStrict (λ v k. k.strict) (visits_of (root_of m) r.tree.nodes.items) h.body.tree.yes.kept
 
 -- a log is bad at one line
 line_once : (log : List ℕ) (v : StepVerdict) (m n : ℕ) → IsBadAt log v m → IsBadAt log v n → m ≡ n
@@ -308,11 +296,6 @@ module _ (counts : Bool) (m : Model) (r : Report) (limit : Option ℕ) (rules : 
       subst (λ (l : Option ℕ). IsJudged (rules_by counts) m l r.tree.nodes.items log v) same_limit
       (subst (λ (k : ℕ). IsJudged k m limit r.tree.nodes.items log v) same_rules h)
 
-  stuck_by : (i : ℕ) → IsFirstStuck rules m limit r.tree.nodes.items i → IsStuckAt counts m r i
-  stuck_by i h =
-      subst (λ (l : Option ℕ). IsFirstStuck (rules_by counts) m l r.tree.nodes.items i) same_limit
-      (subst (λ (k : ℕ). IsFirstStuck k m limit r.tree.nodes.items i) same_rules h)
-
   by_stuck : (i : ℕ) → IsStuckAt counts m r i → IsFirstStuck rules m limit r.tree.nodes.items i
   by_stuck i h =
       subst (λ (k : ℕ). IsFirstStuck k m limit r.tree.nodes.items i) (sym same_rules)
@@ -327,31 +310,6 @@ module _ (counts : Bool) (m : Model) (r : Report) (limit : Option ℕ) (rules : 
         (subst (λ (t : Result A ℕ). IfOk t (λ x. IsJudged rules m limit r.tree.nodes.items (items x) Yes)) is log));
     free = λ node h. cc (sym is ∙ exactly node (by_stuck node h));
   }
-
-  -- a leaf without one
-  pub no_log : {A : Type 0} (told : Result A ℕ) (i : ℕ) → told ≡ Err i → IfErr told (IsFirstStuck rules m limit r.tree.nodes.items)
-      → IsWithoutLog counts m r (NoLog i)
-  no_log {A} told i is h =
-      stuck_by i (subst (λ (t : Result A ℕ). IfErr t (IsFirstStuck rules m limit r.tree.nodes.items)) is h)
-
-  -- a log that is accepted
-  pub good_made : (log : List ℕ) → IsJudged rules m limit r.tree.nodes.items log Yes
-      → All (Stands (IsBelow m limit)) (visits_of (root_of m) r.tree.nodes.items) → IsGoodLog counts m r log
-  good_made log h stands = record {
-    yes = comes log Yes h;
-    stands = subst (λ (l : Option ℕ). All (Stands (IsBelow m l)) (visits_of (root_of m) r.tree.nodes.items)) same_limit stands;
-  }
-
-  -- one with a bad line
-  pub bad_made : (log : List ℕ) (v : StepVerdict) (line : ℕ) → IsJudged rules m limit r.tree.nodes.items log v → IsBadAt log v line
-      → IsNotGood counts m r log (BadSteps line)
-  bad_made log v line h at = record { verdict = v; comes = comes log v h; at = at }
-
-  -- one that ends early or goes on
-  pub short_made : (log : List ℕ) (s : Status) → IsJudged rules m limit r.tree.nodes.items log Short
-      → (s ≡ NoMemory) ⊎ (s ≡ BadSteps (length (pieces_of log) + 1)) → IsNotGood counts m r log s
-  short_made log s h (inl e) = subst (IsNotGood counts m r log) (sym e) tt
-  short_made log s h (inr e) = subst (IsNotGood counts m r log) (sym e) (bad_made log Short (length (pieces_of log) + 1) h refl)
 
 -- ---- parts of an input
 
@@ -437,11 +395,6 @@ told_is counts input first second log (Ok out) a b c few h = (
 -- ---- why there is nothing over the texts
 
 module _ (counts : Bool) (first second : List ℕ) where
-  pub function_unread : (P : Status → Type 0) (e : Refused) → RefusesFunction first e → RefusesBy P first (status_by e)
-  function_unread P RefusedBy.NoMemory h = tt
-  function_unread P (RefusedBy.TextFault line code) h = h
-  function_unread P (RefusedBy.BadSecond line) h = absurd h
-
   pub report_unread : (f : Function) (e : Refused) → IsRead first f → RefusesReport second e
       → RefusesBy (IsLateLog counts first second) first (status_by e)
   report_unread f RefusedBy.NoMemory read h = tt
@@ -514,11 +467,6 @@ module _ (counts : Bool) (first second : List ℕ) where
       log_good m (Err s) h ends printed good = tt
       log_good m (Ok out) h ends printed good =
           record { has = record { function = f; report = r; read = read; model = m; accepted = h }; good = good; ends = ends; printed = printed }
-
-pub short_by : (P : Status → Type 0) (first : List ℕ) (result : Result Output Status) → IfErr result (λ s. s ≡ NoMemory)
-    → IfErr result (RefusesBy P first)
-short_by P first (Ok out) h = tt
-short_by P first (Err s) h = subst (RefusesBy P first) (sym h) tt
 
 pub one_of : (P Q : Status → List ℕ → Type 0) (result : Result Output Status) → IfOk result (λ out. P out.status out.text.items)
     → IfOk result (λ out. P out.status out.text.items ⊎ Q out.status out.text.items)
