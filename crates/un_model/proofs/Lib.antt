@@ -14,7 +14,7 @@ pub mod Placed
 pub mod TempKinds
 pub mod Readings
 pub mod Regions
-pub mod Ends
+pub mod RegionEnds
 pub mod ArcsKept
 pub mod EndLaws
 pub mod Gaps

@@ -39,7 +39,7 @@ use Rattle.un_alt.specs.Registers.{chosen_value, some_passes}
 use Rattle.un_kinds.specs.Constraints.{Constraint, AllMet, Same}
 use Rattle.un_sites.specs.Places.{Place, Definer, definers_of, definer_or, definers_at, block_places}
 use Rattle.un_sites.specs.Postings.{edges_of, over_edge, congruence, same_by, registers_of, last_place}
-use Rattle.un_model.proofs.Ends.{all_regions, region_member, region_good, region_end, last_member, the_end, end_read}
+use Rattle.un_model.proofs.RegionEnds.{all_regions, region_member, region_good, region_end, last_member, the_end, end_read}
 use Rattle.un_post.proofs.Facts.{Given, Reading, good, good_op, all_member, numbered, definer_is, choice_var, reading, read_range}
 use Rattle.un_post.proofs.Facts.{read_register}
 use Rattle.un_root.proofs.Eaches.{each_places}

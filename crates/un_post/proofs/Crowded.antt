@@ -54,7 +54,7 @@ use Rattle.un_post.proofs.AccessRooms.{placed_as}
 use Rattle.un_post.proofs.Blocks.{blocks, region_places, in_all}
 use Rattle.un_post.proofs.Congruences.{in_is, live_in_is}
 use Rattle.un_post.proofs.Crossed.{OtherTemp, different, pairwise_part, some_home}
-use Rattle.un_model.proofs.Ends.{all_regions, region_good, region_end, last_member, the_end, end_reads, end_read}
+use Rattle.un_model.proofs.RegionEnds.{all_regions, region_good, region_end, last_member, the_end, end_reads, end_read}
 use Rattle.un_post.proofs.Facts.{Given, numbered, reading, read_temp, in_domains}
 use Rattle.un_post.proofs.NoSharing.{all_pass}
 use Rattle.un_post.proofs.Placing.{place_of}

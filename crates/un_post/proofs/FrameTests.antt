@@ -24,7 +24,7 @@ use Rattle.un_alt.specs.Frame.{counts, is_after, is_until, is_left, in_order}
 use Rattle.un_sites.specs.Places.{Place, places_of, block_places}
 use Rattle.un_sites.specs.Postings.{with_kind, in_entry, cycle_var, frame_op, copy_use, single_use, uses_of, leave_of}
 use Rattle.un_sites.specs.Postings.{leaves_in}
-use Rattle.un_model.proofs.Ends.{all_regions, region_member}
+use Rattle.un_model.proofs.RegionEnds.{all_regions, region_member}
 use Rattle.un_post.proofs.Facts.{Given}
 use Rattle.un_post.proofs.FrameOrder.{all_iff, late_iff, soon_iff, tag_of, kind_fits, enter_tag, leave_tag, call_tag, copy_counts}
 use Rattle.un_post.proofs.FrameOrder.{call_counts, leave_counts, cycle_is}

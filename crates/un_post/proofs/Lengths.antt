@@ -51,7 +51,7 @@ use Rattle.un_post.proofs.Blocks.{blocks, region_places, region_vars, region_clo
 use Rattle.un_post.proofs.CallBefores.{block_met}
 use Rattle.un_post.proofs.CallOrder.{kept}
 use Rattle.un_post.proofs.Crossed.{registers, asking_source, heads, tails}
-use Rattle.un_model.proofs.Ends.{region_end}
+use Rattle.un_model.proofs.RegionEnds.{region_end}
 use Rattle.un_post.proofs.Facts.{Given, times}
 use Rattle.un_post.proofs.Filled.{heads_filled, tails_filled, end_behind}
 use Rattle.un_post.proofs.Latencies.{latencies}

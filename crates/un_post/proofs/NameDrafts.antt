@@ -63,7 +63,7 @@ use Rattle.un_saved.specs.Standing.{in_slots}
 use Rattle.un_saved.specs.declared.boundary.Boundary.TheVariants.{StartOf}
 use Rattle.un_saved.proofs.CallOwes.{ReloadsBehind, names_owe}
 use Rattle.un_saved.proofs.CallReloads.{call_crowds}
-use Rattle.un_model.proofs.Ends.{region_good}
+use Rattle.un_model.proofs.RegionEnds.{region_good}
 use Rattle.un_saved.proofs.OnePlace.{drop_get, in_is, live_in_is}
 use Rattle.un_rows.specs.Drafts.{owed, behind_call, call_draft, call_drafts, crossed_draft, drafts_by, is_crowded}
 use Rattle.un_rows.specs.Kept.{IsKeptBy}

@@ -15,7 +15,7 @@ use Rattle.un_model.specs.Variables.{var_at, var_count, ops_count}
 use Rattle.un_model.proofs.Lists.{Member, get_below, member_of_filter}
 use Rattle.un_model.proofs.Placed.{Placed, placed, Region, region_placed}
 use Rattle.un_model.proofs.PlacedSchedules.{all}
-use Rattle.un_model.proofs.Ends.{all_regions, region_member, filter_one}
+use Rattle.un_model.proofs.RegionEnds.{all_regions, region_member, filter_one}
 use Rattle.un_post.proofs.Facts.{Given, good}
 use Rattle.un_model.proofs.Regions.{placed_regions, region_is, region_of, of_region}
 

@@ -36,7 +36,7 @@ use Rattle.un_sites.specs.declared.edges.Edge.{Edge}
 use Rattle.un_post.proofs.Blocks.{blocks, region_places}
 use Rattle.un_post.proofs.Congruences.{member_contains}
 use Rattle.un_post.proofs.Crowded.{InSlot, Accesses_by, saved_count, stays, crowded_slot, end_spills, start_reloads}
-use Rattle.un_model.proofs.Ends.{all_regions}
+use Rattle.un_model.proofs.RegionEnds.{all_regions}
 use Rattle.un_post.proofs.Facts.{Given}
 use Rattle.un_post.proofs.Filling.{none_of}
 use Rattle.un_model.proofs.Regions.{region_is, region_of}

@@ -33,7 +33,7 @@ use Rattle.un_saved.specs.Saved.{saved_in, keeps_places}
 use Rattle.un_saved.specs.Standing.{in_slots}
 use Rattle.un_saved.specs.declared.boundary.Boundary.TheVariants.{StartOf}
 use Rattle.un_saved.proofs.CallReloads.{names_in_slots, names_reload, ReloadsName}
-use Rattle.un_model.proofs.Ends.{all_regions}
+use Rattle.un_model.proofs.RegionEnds.{all_regions}
 use Rattle.un_saved.proofs.OnePlace.{saved_number}
 use Rattle.un_model.proofs.Regions.{placed_regions, region_is}
 

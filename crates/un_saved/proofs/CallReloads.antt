@@ -46,7 +46,7 @@ use Rattle.un_saved.specs.Standing.{place_at, taken_at, is_slot, in_slots}
 use Rattle.un_saved.specs.declared.boundary.Boundary.{Boundary}
 use Rattle.un_saved.specs.declared.boundary.Boundary.TheVariants.{StartOf}
 use Rattle.un_model.proofs.Regions.{of_region}
-use Rattle.un_model.proofs.Ends.{all_regions, region_end, region_member, filter_append}
+use Rattle.un_model.proofs.RegionEnds.{all_regions, region_end, region_member, filter_append}
 use Rattle.un_saved.proofs.Bounds.{last, all_last, block_is, end_reads_out, Starts, starts, saved_apart, register_is}
 use Rattle.un_saved.proofs.EntrySpills.{range_differ, range_below, count_filter}
 use Rattle.un_saved.proofs.OnePlace.{drop_get, alone_at, chosen, saved_at, saved_number}

@@ -47,7 +47,7 @@ use Rattle.un_saved.specs.Standing.{place_at, handed_at, is_slot, in_slots}
 use Rattle.un_saved.specs.declared.boundary.Boundary.{Boundary}
 use Rattle.un_saved.specs.declared.boundary.Boundary.TheVariants.{EndOf}
 use Rattle.un_model.proofs.Regions.{region_is, region_of, of_region}
-use Rattle.un_model.proofs.Ends.{all_regions, region_end, region_good, region_member, the_end, last_member, end_reads, end_read}
+use Rattle.un_model.proofs.RegionEnds.{all_regions, region_end, region_good, region_member, the_end, last_member, end_reads, end_read}
 use Rattle.un_saved.proofs.OnePlace.{and_both, drop_get, end_is, in_is, live_in_is, saved_at, saved_number}
 use Rattle.un_saved.proofs.Bounds.{last, all_last, block_is, number_is, end_reads_out, handed, saved_apart, one_result}
 

@@ -7,7 +7,7 @@ use Rattle.un_model.specs.declared.model.Options.{Options}
 use Rattle.un_model.proofs.Placed.{Region}
 use Rattle.un_model.proofs.Readings.{Solved}
 use Rattle.un_model.proofs.Regions.{region_is, region_of}
-use Rattle.un_model.proofs.Ends.{all_regions}
+use Rattle.un_model.proofs.RegionEnds.{all_regions}
 
 module _ (e : Ext) (o : Options) (values : List ℕ) (solved : Solved e o values) where
   pub record Here (k : ℕ) (b : ExtBlock) : Type 0 where

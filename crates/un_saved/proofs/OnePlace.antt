@@ -41,7 +41,7 @@ use Rattle.un_saved.specs.declared.boundary.Boundary.{Boundary}
 use Rattle.un_saved.specs.declared.boundary.Boundary.TheVariants.{StartOf, EndOf}
 use Rattle.un_saved.specs.Standing.{within, is_slot, in_slots}
 use Rattle.un_model.proofs.Regions.{region_is, region_of, Ended}
-use Rattle.un_model.proofs.Ends.{all_regions, region_end, the_end, last_member, end_read}
+use Rattle.un_model.proofs.RegionEnds.{all_regions, region_end, the_end, last_member, end_read}
 
 -- ---- lists
 

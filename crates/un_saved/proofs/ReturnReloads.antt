@@ -45,7 +45,7 @@ use Rattle.un_saved.specs.Standing.{place_at, taken_at, is_slot, in_slots}
 use Rattle.un_saved.specs.declared.boundary.Boundary.{Boundary}
 use Rattle.un_saved.specs.declared.boundary.Boundary.TheVariants.{StartOf}
 use Rattle.un_model.proofs.Regions.{of_region}
-use Rattle.un_model.proofs.Ends.{all_regions, region_member}
+use Rattle.un_model.proofs.RegionEnds.{all_regions, region_member}
 use Rattle.un_saved.proofs.Bounds.{block_is, number_is, Starts, starts, saved_apart, register_is}
 use Rattle.un_saved.proofs.EntrySpills.{range_differ, range_below, count_filter, slot_register}
 use Rattle.un_saved.proofs.OnePlace.{and_both, saved_at, saved_number}

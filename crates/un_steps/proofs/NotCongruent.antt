@@ -24,7 +24,7 @@ use Rattle.un_steps.specs.Rules.{IsNotCongruent, HasSuccessor, IsTakenElsewhere,
 use Rattle.un_steps.specs.Words.{alternative, IsNeverZero, regs}
 use Rattle.un_steps.proofs.Boxes.{some_of}
 use Rattle.un_steps.proofs.Choosing.{chosen, register_in, register_left}
-use Rattle.un_model.proofs.Ends.{all_regions, region_end, the_end, end_read}
+use Rattle.un_model.proofs.RegionEnds.{all_regions, region_end, the_end, end_read}
 use Rattle.un_steps.proofs.Grounds.{sure_active}
 use Rattle.un_steps.proofs.Placing.{operation_of}
 use Rattle.un_model.proofs.Regions.{region_is, of_region, placed_regions, last_of, front_of, region_parts, front_stays, Ended, out_is}
