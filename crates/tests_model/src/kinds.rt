@@ -15,7 +15,8 @@ use un_kinds::make_alt::{
 use un_kinds::make_counted::make_counted;
 use un_kinds::make_prec::{make_before, make_below, make_inside, make_last, make_reads};
 use un_kinds::make_press::{make_across, make_live};
-use un_kinds::make_rect::{OperandFields, make_apart, make_clobber, make_operands, make_per_cycle};
+use un_kinds::make_rect::{OperandFields, make_apart, make_clobber, make_operands};
+use un_kinds::make_slots::make_per_cycle;
 use un_lists::items::Items;
 use un_prec::below::Weighted;
 use un_prec::reads::ReadAlt;

@@ -7,6 +7,7 @@ pub mod make_counted;
 pub mod make_prec;
 pub mod make_press;
 pub mod make_rect;
+pub mod make_slots;
 pub mod props;
 mod sweep;
 pub mod table;

@@ -16,7 +16,7 @@ use un_model::cost::value;
 use un_model::model::{BlockVars, Model, Solution};
 use un_model::placement::schedule;
 use un_model::schedule::Schedule;
-use un_violations::violations::violations;
+use un_violations::solution::is_solution;
 
 /// Whether no block ends later than before.
 fn end_no_later(blocks: &[BlockVars], new: &[u32], old: &[u32]) -> bool
@@ -42,7 +42,7 @@ fn take_guess(alloc: Global, m: &Model, guess: Solution, s: &mut Solution) -> Re
     if new == old {
         return Ok(());
     }
-    if end_no_later(m.blocks.as_slice(), new, old) && violations(alloc, m, &guess)?.is_empty() {
+    if end_no_later(m.blocks.as_slice(), new, old) && is_solution(alloc, m, &guess)? {
         *s = guess;
     }
     Ok(())

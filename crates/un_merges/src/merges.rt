@@ -15,7 +15,7 @@ use un_base::memory_error::NoMemory;
 use un_lists::items::Items;
 use un_model::cost::value;
 use un_model::model::{BlockVars, Model, OpVars, Solution};
-use un_violations::violations::violations;
+use un_violations::solution::is_solution;
 
 /// Makes a variable one less than it was, where that is greater than `t`.
 #[tactic(auto, using(crate::proofs::Lowering::inside))]
@@ -81,8 +81,7 @@ fn take_merge(
     ensures none { IfOk result (λ found. found ≡ false → ¬ IsSolution m.now (merged vars.now t s.old)) }
 {
     let new = merged(alloc, vars, t, s)?;
-    let broken = violations(alloc, m, &new)?;
-    let found = broken.is_empty();
+    let found = is_solution(alloc, m, &new)?;
     if found {
         *s = new;
     }

@@ -4,9 +4,9 @@
 ghost use Rattle.std.specs.Prelude.{◌≡◌, ◌==◌, [], ◌∷◌, ◌++◌, IfOk, OnOk, map, slice_get};
 ghost use Rattle.un_kinds.specs.Constraints as constraint;
 ghost use Rattle.un_rooms.specs.Waits.{befores_by};
-ghost use Rattle.un_sites.specs.Befores.{arc_before, befores_in, place_with, known_befores, length_in, lengths_of};
+ghost use Rattle.un_sites.specs.Befores.{arc_before, befores_in, known_befores, length_in, lengths_of};
 ghost use Rattle.un_sites.specs.Lengths.{length_by};
-ghost use Rattle.un_sites.specs.Places.{definers_of, places_of, time_of};
+ghost use Rattle.un_sites.specs.Places.{definers_of, places_of};
 ghost use Rattle.un_sites.specs.Rooms.{arcs_or};
 ghost use Rattle.un_sites.specs.Saved.{edges_between, crowded_of};
 ghost use Rattle.un_sites.specs.Sites.{place_of, definers_in};
@@ -18,32 +18,19 @@ use crate::room::register_count;
 use crate::tasks::{precedences_by, tasks_in};
 use crate::wait::Wait;
 use std::alloc::{AllocError, Global};
-use un_base::ids::{OpId, VarId};
+use un_base::ids::VarId;
 use un_base::memory_error::NoMemory;
 use un_base::numbers::{advance, number};
 use un_ir::extended::ExtBlock;
 use un_isa::table::Table;
-use un_kinds::make_rect::make_length;
+use un_kinds::make_slots::make_length;
 use un_kinds::props::Props;
 use un_length::block::Block;
 use un_lists::items::Items;
 use un_model::model::{Arc, BlockVars, Model};
-use un_prop::act::At;
 use un_sites::edges::Accesses;
-use un_sites::sites::{Site, Spot};
+use un_sites::sites::{Site, Spot, time_with};
 use un_sites::tables::add_block;
-
-/// The time of the operation with a number; what is not there is at a block's start.
-fn time_with(spots: &[Spot<'_>], op: OpId) -> At
-    ensures { result ≡ time_of (place_with (map place_of spots.now) op.0) }
-{
-    let i = op.0 as usize;
-    if i < spots.len() {
-        spots[i].time()
-    } else {
-        At::Const(0)
-    }
-}
 
 /// Adds what the operations of arcs wait for, where this is the table of all operations.
 fn add_arc_waits(

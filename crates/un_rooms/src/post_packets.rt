@@ -14,7 +14,7 @@ use un_base::memory_error::NoMemory;
 use un_base::numbers::{advance, number};
 use un_ir::extended::{ExtBlock, ExtKind};
 use un_isa::table::{Needs, Table};
-use un_kinds::make_rect::make_per_cycle;
+use un_kinds::make_slots::make_per_cycle;
 use un_kinds::props::Props;
 use un_lists::items::Items;
 use un_model::instructions::{instruction, needs};

@@ -2,30 +2,17 @@
 
 ghost use Rattle.std.specs.Prelude.{◌≡◌, [], ◌∷◌, ◌++◌, OnOk, map};
 ghost use Rattle.un_model.specs.Pairs.{joined};
-ghost use Rattle.un_sites.specs.Befores.{arc_before, befores_in, befores_of, place_with};
-ghost use Rattle.un_sites.specs.Places.{places_of, time_of};
+ghost use Rattle.un_sites.specs.Befores.{arc_before, befores_in, befores_of};
+ghost use Rattle.un_sites.specs.Places.{places_of};
 ghost use Rattle.un_sites.specs.Sites.{place_of};
 
-use un_base::ids::OpId;
 use un_base::memory_error::NoMemory;
 use un_kinds::make_prec::make_before;
 use un_kinds::props::Props;
 use un_lists::items::Items;
 use un_model::model::{Arc, Model};
-use un_prop::act::{Act, At};
-use un_sites::sites::Spot;
-
-/// The time of the operation with a number; what is not there is at a block's start.
-fn time_with(spots: &[Spot<'_>], op: OpId) -> At
-    ensures { result ≡ time_of (place_with (map place_of spots.now) op.0) }
-{
-    let i = op.0 as usize;
-    if i < spots.len() {
-        spots[i].time()
-    } else {
-        At::Const(0)
-    }
-}
+use un_prop::act::Act;
+use un_sites::sites::{Spot, time_with};
 
 /// What is posted of an arc.
 fn post_arc(props: &mut Props, spots: &[Spot<'_>], arc: &Arc) -> Result<(), NoMemory>

@@ -2,12 +2,13 @@
 
 ghost use Rattle.std.specs.Prelude.{◌≡◌, ◌++◌, IfOk, OnOk, map, slice_get};
 ghost use Rattle.std.specs.Option.{option_map};
+ghost use Rattle.un_sites.specs.Befores.{place_with};
 ghost use Rattle.un_sites.specs.Places.{act_by, act_of, time_by, time_of, definer_or, registers_at, definers_at};
 ghost use Rattle.un_sites.specs.Postings.{cycle_var, registers_of};
 ghost use Rattle.un_sites.specs.Sites.{place_of, definer_at, definers_in, cycle_time};
 
 use std::alloc::{AllocError, Global};
-use un_base::ids::{TempId, VarId};
+use un_base::ids::{OpId, TempId, VarId};
 use un_ir::extended::{ExtKind, ExtOp};
 use un_lists::items::Items;
 use un_model::model::OpVars;
@@ -107,6 +108,18 @@ impl Site<'_> {
             None => At::Const(0),
             Some(p) => p.time(),
         }
+    }
+}
+
+/// The time of the operation with a number; what is not there is at a block's start.
+pub fn time_with(spots: &[Spot<'_>], op: OpId) -> At
+    ensures { result ≡ time_of (place_with (map place_of spots.now) op.0) }
+{
+    let i = op.0 as usize;
+    if i < spots.len() {
+        spots[i].time()
+    } else {
+        At::Const(0)
     }
 }
 

@@ -1,4 +1,4 @@
-//! The clauses of a solution that values of a model's variables break.
+//! The clauses of a solution that values of a model's variables break, and whether they break none.
 #![tactic(auto)]
 
 mod bounds;
@@ -8,4 +8,5 @@ mod frame;
 mod loose;
 mod occupations;
 mod packets;
+pub mod solution;
 pub mod violations;

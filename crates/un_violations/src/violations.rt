@@ -28,7 +28,7 @@ use un_model::schedule::Schedule;
 use un_model::verdict::{Broken, Verdict};
 
 /// Whether temporaries are apart, and spared by calls.
-fn keeps_registers(alloc: Global, clobbered: u64, t: &Schedule) -> Result<bool, NoMemory>
+pub(crate) fn keeps_registers(alloc: Global, clobbered: u64, t: &Schedule) -> Result<bool, NoMemory>
     ensures { IfOk result (λ kept. IsTrue kept ↔ KeepsRegisters clobbered t.now) }
 {
     let ranges = t.ranges.as_slice();
@@ -38,7 +38,7 @@ fn keeps_registers(alloc: Global, clobbered: u64, t: &Schedule) -> Result<bool, 
 }
 
 /// Whether temporaries have their homes, and values stand in one register on both sides of an edge.
-fn keeps_places(alloc: Global, blocks: &[ExtBlock], t: &Schedule) -> Result<bool, NoMemory>
+pub(crate) fn keeps_places(alloc: Global, blocks: &[ExtBlock], t: &Schedule) -> Result<bool, NoMemory>
     ensures { IfOk result (λ kept. IsTrue kept ↔ (KeepsHomes t.now × KeepsCongruences blocks.now t.now)) }
 {
     let congruent = keeps_congruences(alloc, blocks, t)?;
