@@ -34,8 +34,11 @@ use un_start::read::{StartError, read_start};
 use un_words::pieces::first_len;
 
 /// The function of a text.
+///
+/// # Errors
+/// Why the text is refused, or that there is no memory.
 #[tactic(auto, using(crate::proofs::RunLaws::function_is_refused))]
-fn function_of(alloc: Global, text: &[u8]) -> Result<Function, Refused>
+pub fn function_of(alloc: Global, text: &[u8]) -> Result<Function, Refused>
     ensures ok { IfOk result (IsRead text.now) }
     ensures refused { IfErr result (RefusesFunction text.now) }
 {

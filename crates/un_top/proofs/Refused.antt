@@ -4,24 +4,16 @@ use Rattle.un_runs.specs.declared.refused.Refused.{Refused}
 use Rattle.un_runs.specs.declared.refused.Refused.TheVariants.{NoMemory, TextFault, BadSecond}
 use Rattle.un_runs.specs.Refusals.{RefusesFunction, RefusesSource, RefusesCode}
 use Rattle.un_commands.specs.declared.command.SearchOptions.{SearchOptions}
-use Rattle.un_reader.specs.Errors.{Tells}
-use Rattle.un_reader.specs.Read.{IsTextFault}
-use Rattle.un_reader.specs.declared.error.ReadError.{ReadError}
-use Rattle.un_reader.specs.declared.error.ReadError.TheVariants as ReadErrors
 use Rattle.un_report_reader.specs.Readings.{IsErrorOf, IsNumbersError}
 use Rattle.un_refutation.specs.Readings.{IsErrorOf as IsRefutationError}
 use Rattle.un_report_reader.specs.declared.error.ReportError.{ReportError}
 use Rattle.un_report_reader.specs.declared.error.ReportError.TheVariants as ReportErrors
 use Rattle.un_top.specs.Behaviours.{of_alloc, of_run, of_run_code, of_check, of_improve, of_refute, of_refutation}
-use Rattle.un_top.specs.Checks.{RefusesReport, RefusesCheck, unread_by, unviewed_by}
+use Rattle.un_top.specs.Checks.{RefusesReport, RefusesCheck, unviewed_by}
 use Rattle.un_top.specs.Improvements.{RefusesNumbers, RefusesImprovement}
 use Rattle.un_top.specs.Refutations.{RefusesRefutation, RefusesRefutationCheck}
 use Rattle.un_top.specs.Runs.{RefusesText, status_by}
 use Rattle.un_top.specs.declared.limits.TheConstants.{INPUT}
-
-pub unread : (text : List ℕ) (error : ReadError) → Tells (IsTextFault text) error → RefusesFunction text (unread_by error)
-unread text ReadErrors.NoMemory told = tt
-unread text (ReadErrors.TextFault line code) told = record { fault = told.0; is = told.2; coded = told.1 }
 
 pub unviewed : (text : List ℕ) (error : ReportError) → IsErrorOf text error → RefusesReport text (unviewed_by error)
 unviewed text ReportErrors.NoMemory told = tt

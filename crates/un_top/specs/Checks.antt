@@ -13,8 +13,6 @@ use Rattle.un_outside.specs.declared.status.NoCause.{NoCause}
 use Rattle.un_outside.specs.declared.status.NoCause.TheVariants.{Name, Solution, Cost, Listing, Strict, Alive, Closed, Mirror, Short, Spent, Bound}
 use Rattle.un_problem.specs.Problems.{IsModelOf}
 use Rattle.un_reader.specs.Read.{IsRead}
-use Rattle.un_reader.specs.declared.error.ReadError.{ReadError}
-use Rattle.un_reader.specs.declared.error.ReadError.TheVariants as ReadErrors
 use Rattle.un_report.specs.declared.report.Answered.{Answered}
 use Rattle.un_report.specs.declared.report.Answered.TheVariants.{Code, Infeasible, Spent as Stopped}
 use Rattle.un_report.specs.declared.report.Report.{Report}
@@ -115,12 +113,7 @@ IsOfLines text = (lines : List (List ℕ)) × (text ≡ joined_lines lines)
 
 -- ---- refusals
 
--- why there is no outcome where a function's text is not read
-abbrev pub unread_by : ReadError → Refused
-unread_by ReadErrors.NoMemory = NoMemory
-unread_by (ReadErrors.TextFault line code) = TextFault line code
-
--- where a report's text is not read
+-- why there is no outcome where a report's text is not read
 abbrev pub unviewed_by : ReportError → Refused
 unviewed_by ReportErrors.NoMemory = NoMemory
 unviewed_by (ReportErrors.BadReport line) = BadSecond line

@@ -12,13 +12,12 @@ ghost use Rattle.un_top.specs.declared.limits.TheConstants.{INPUT};
 use crate::check::check_by;
 use crate::output::Output;
 use crate::produce::{done, report_by, status_by};
-use crate::reading::function_of;
 use std::alloc::Global;
 use un_commands::command::SearchOptions;
 use un_isa::table::Table;
 use un_outside::status::Status;
 use un_runs::input::{split, split_three};
-use un_runs::runs::code_run_by;
+use un_runs::runs::{code_run_by, function_of};
 use un_target::error::TableError;
 use un_target::reading::read_table;
 

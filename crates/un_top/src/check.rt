@@ -9,7 +9,7 @@ ghost use Rattle.un_top.specs.Checks.{IsAnswered, IsCheckBy, IsCheckOf, IsCheck,
 ghost use Rattle.un_top.specs.Runs.{IsWritten};
 
 use crate::output::Output;
-use crate::reading::{function_of, view_of};
+use crate::reading::view_of;
 use std::alloc::Global;
 use un_base::memory_error::NoMemory;
 use un_check::report::{check_table, check_view};
@@ -21,6 +21,7 @@ use un_report::report::Answered;
 use un_report::view::ReportView;
 use un_runs::input::split;
 use un_runs::refused::Refused;
+use un_runs::runs::function_of;
 
 /// Appends the line for a report that is accepted.
 fn put_yes(out: &mut Vec<u8>, answer: &Answered) -> Result<(), NoMemory>

@@ -17,7 +17,7 @@ ghost use Rattle.un_top.specs.Runs.{IsWritten};
 
 use crate::check::put_no;
 use crate::output::{Output, printed};
-use crate::reading::{function_of, numbers_of};
+use crate::reading::numbers_of;
 use crate::search::report_from;
 use std::alloc::Global;
 use un_base::memory_error::NoMemory;
@@ -31,6 +31,7 @@ use un_outside::status::{NoCause, Status};
 use un_problem::problem::model;
 use un_runs::input::split;
 use un_runs::refused::Refused;
+use un_runs::runs::function_of;
 use un_violations::violations::loose_violations;
 
 /// The number of the first clause of a list.

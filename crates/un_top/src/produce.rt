@@ -24,7 +24,6 @@ use crate::generated::generated_report;
 use crate::improve::improve_input;
 use crate::limits::INPUT;
 use crate::output::{Output, printed};
-use crate::reading::function_of;
 use crate::refutation::refutation_output;
 use crate::refute::refute_output;
 use crate::search::search_report;
@@ -43,7 +42,7 @@ use un_outside::words::Word;
 use un_problem::problem::model;
 use un_reader::limits::TEXT;
 use un_runs::refused::Refused;
-use un_runs::runs::{code_run, generated_text, source_run};
+use un_runs::runs::{code_run, function_of, generated_text, source_run};
 
 /// The code of a text that is too long.
 const TOO_MANY: u8 = 13;

@@ -1,19 +1,14 @@
-//! What the program reads of texts: a function, a report or its view, the numbers of a solution, and a refutation.
+//! What the program reads of texts: a report or its view, the numbers of a solution, and a refutation.
 
 ghost use Rattle.std.specs.Prelude.{◌≡◌, IfOk, IfErr};
-ghost use Rattle.un_reader.specs.Read.{IsRead};
 ghost use Rattle.un_report_reader.specs.Readings.{IsViewRead, IsReportRead, IsNumbers};
 ghost use Rattle.un_refutation.specs.Readings.{IsRefutationRead};
-ghost use Rattle.un_runs.specs.Refusals.{RefusesFunction};
-ghost use Rattle.un_top.specs.Checks.{unread_by, unviewed_by, RefusesReport};
+ghost use Rattle.un_top.specs.Checks.{unviewed_by, RefusesReport};
 ghost use Rattle.un_top.specs.Improvements.{RefusesNumbers};
 ghost use Rattle.un_top.specs.Refutations.{RefusesRefutation};
 
 use std::alloc::Global;
-use un_ir::function::Function;
 use un_model::model::Solution;
-use un_reader::error::ReadError;
-use un_reader::read::read_function;
 use un_refutation::read::read_refutation;
 use un_refutation::refutation::Refutation;
 use un_report::report::Report;
@@ -22,16 +17,6 @@ use un_report_reader::error::ReportError;
 use un_report_reader::read::{read_numbers, read_report, read_view};
 use un_runs::refused::Refused;
 
-/// Why there is no outcome where a function's text is not read.
-fn unread_by(error: ReadError) -> Refused
-    ensures { result ≡ unread_by error }
-{
-    match error {
-        ReadError::NoMemory => Refused::NoMemory,
-        ReadError::TextFault { line, code } => Refused::TextFault { line, code },
-    }
-}
-
 /// Why there is no outcome where a report's text is not read.
 fn unviewed_by(error: ReportError) -> Refused
     ensures { result ≡ unviewed_by error }
@@ -39,17 +24,6 @@ fn unviewed_by(error: ReportError) -> Refused
     match error {
         ReportError::NoMemory => Refused::NoMemory,
         ReportError::BadReport { line } => Refused::BadSecond { line },
-    }
-}
-
-/// The function of a text.
-pub(crate) fn function_of(alloc: Global, text: &[u8]) -> Result<Function, Refused>
-    ensures ok { IfOk result (IsRead text.now) }
-    ensures refused { IfErr result (RefusesFunction text.now) }
-{
-    match read_function(alloc, text) {
-        Ok(f) => Ok(f),
-        Err(error) => Err(unread_by(error)),
     }
 }
 

@@ -15,7 +15,7 @@ ghost use Rattle.un_top.specs.declared.limits.TheConstants.{INPUT};
 use crate::check::{put_counted, put_no};
 use crate::output::Output;
 use crate::produce::status_by;
-use crate::reading::{function_of, refutation_of};
+use crate::reading::refutation_of;
 use std::alloc::Global;
 use un_base::memory_error::NoMemory;
 use un_ir::function::Function;
@@ -27,6 +27,7 @@ use un_refutes::check::check_sym;
 use un_refutes::verdict::SymVerdict;
 use un_runs::input::split;
 use un_runs::refused::Refused;
+use un_runs::runs::function_of;
 
 /// The line for a verdict on the tree of a refutation under a limit.
 fn verdict_text(alloc: Global, limit: u64, verdict: SymVerdict) -> Result<Vec<u8>, NoMemory>

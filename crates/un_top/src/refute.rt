@@ -20,7 +20,6 @@ ghost use Rattle.un_top.specs.Runs.{IsWritten, RefusesText};
 use crate::check::put_counted;
 use crate::output::Output;
 use crate::produce::status_by;
-use crate::reading::function_of;
 use std::alloc::Global;
 use un_base::memory_error::NoMemory;
 use un_commands::command::SearchOptions;
@@ -32,6 +31,7 @@ use un_outside::status::Status;
 use un_problem::problem::model;
 use un_refutation::print::{print_cut, print_refutation};
 use un_refutes::shorten::shorten;
+use un_runs::runs::function_of;
 use un_search::attempt::{Tried, attempt};
 use un_tree::node::Tree;
 

@@ -15,7 +15,7 @@ ghost use Rattle.un_top.specs.declared.limits.TheConstants.{INPUT};
 use crate::check::put_no;
 use crate::output::Output;
 use crate::produce::{done, status_by};
-use crate::reading::{function_of, report_in};
+use crate::reading::report_in;
 use std::alloc::Global;
 use un_base::memory_error::NoMemory;
 use un_base::numbers::later;
@@ -32,6 +32,7 @@ use un_outside::status::{NoCause, Status};
 use un_problem::problem::model;
 use un_report::report::Report;
 use un_runs::input::{split, split_three};
+use un_runs::runs::function_of;
 use un_steps::step::{ALL_RULES, PLAIN_RULES};
 use un_words::pieces::first_len;
 
