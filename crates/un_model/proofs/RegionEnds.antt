@@ -1,5 +1,5 @@
 -- What a block hands over: the reads of its end are the operands of its last operation, in order.
-use Rattle.std.proofs.Common.{ℕ, zero, suc, ◌≡◌, ◌+◌, Bool, true, false, cond, List, [], ◌∷◌, ◌++◌, map, filter, inl, refl, sym, ap, ◌∙◌}
+use Rattle.std.proofs.Common.{ℕ, zero, suc, ◌≡◌, ◌+◌, ◌^◌, Bool, true, false, cond, List, [], ◌∷◌, ◌++◌, map, filter, inl, refl, sym, ap, ◌∙◌}
 use Rattle.std.proofs.Common.{subst, arith, append_assoc}
 use Rattle.std.specs.Prelude.{Option, Some, None, slice_get, is_none, is_some, ◌||◌, ◌&&◌, nat_eq, if◌then◌else◌}
 use Rattle.std.specs.List.{AllZip}
