@@ -133,13 +133,7 @@ fn mixes_fit(t: &Timed<'_>, end: u32, counts: &mut [u32]) -> bool
 }
 
 /// Whether the operations have room, with what the cycles before `end` lose, where numbers count them.
-pub fn mixed_room(
-    ops: &[Task],
-    early: &[u32],
-    late: &[u32],
-    end: u32,
-    counts: &mut [u32],
-) -> bool
+pub fn mixed_room(ops: &[Task], early: &[u32], late: &[u32], end: u32, counts: &mut [u32]) -> bool
     requires early { length ops.now ≤ length early.now }
     requires late { length ops.now ≤ length late.now }
     requires ordered { in_order ops.now (slice_index early.now) (slice_index late.now) ≡ true }

@@ -38,7 +38,11 @@ pub(crate) fn keeps_registers(alloc: Global, clobbered: u64, t: &Schedule) -> Re
 }
 
 /// Whether temporaries have their homes, and values stand in one register on both sides of an edge.
-pub(crate) fn keeps_places(alloc: Global, blocks: &[ExtBlock], t: &Schedule) -> Result<bool, NoMemory>
+pub(crate) fn keeps_places(
+    alloc: Global,
+    blocks: &[ExtBlock],
+    t: &Schedule,
+) -> Result<bool, NoMemory>
     ensures { IfOk result (λ kept. IsTrue kept ↔ (KeepsHomes t.now × KeepsCongruences blocks.now t.now)) }
 {
     let congruent = keeps_congruences(alloc, blocks, t)?;

@@ -9,8 +9,7 @@ keeps_clauses-requires c =
 
 pub returns : goal.returns
 returns c =
-    let h = rw (c.requires) at c.in_ok-kept.ensures in
-    (
+    let h = rw (c.requires) at c.in_ok-kept.ensures in (
       λ is.
           let k = h.0 is in
           let alone = k.0 in
@@ -30,6 +29,17 @@ returns c =
             congruences = places.0.1;
             frame = places.1.0;
           },
-      λ s. h.1 (((s.latencies, s.choices), (s.spaces, s.zeros)), ((s.packets, s.memory), (s.registers, ((s.homes, s.congruences),
-          (s.frame, s.in_domains))))),
+      λ s. h.1 (
+        ((s.latencies, s.choices), (s.spaces, s.zeros)),
+        (
+          (s.packets, s.memory),
+          (
+            s.registers,
+            (
+              (s.homes, s.congruences),
+              (s.frame, s.in_domains),
+            ),
+          ),
+        ),
+      ),
     )
