@@ -57,7 +57,7 @@ module _ (root : Sets) (fix : Sets → Option Sets) (bound : Sets → ℕ → Ty
   no_branches = record {
     box = λ i. root;
     earlier = λ i lt. absurd (omega (arith, lt));
-    known = λ i lt. absurd (omega (arith, lt));
+    split = λ i lt. absurd (omega (arith, lt));
     boxes = λ i lt. absurd (omega (arith, lt));
   }
 
@@ -94,7 +94,7 @@ module _ (root : Sets) (fix : Sets → Option Sets) (bound : Sets → ℕ → Ty
       there = omega (arith, at);
       cost = note;
       earlier = rw link tt;
-      known = rw link tt;
+      split = rw link tt;
       led = rw link refl;
     }) (All-nil Note));
   }

@@ -23,15 +23,16 @@ use Rattle.un_branching.specs.declared.attempt.Entered.{Entered}
 use Rattle.un_branching.specs.declared.attempt.Entered.TheVariants.{Leaf}
 use Rattle.un_tree.specs.Boxes.{IsBox, half, Splits, reached}
 use Rattle.un_branching.specs.Growths.{Grown, Listed, node_of, next_of, branched, blank, count}
-use Rattle.un_branching.specs.Growths.{HaveParents, box_under, link_at, link_to}
+use Rattle.un_branching.specs.Growths.{HaveParents, IsSplit, box_under, link_at, link_to}
+use Rattle.un_walk.specs.Stands.{AllSplit}
 use Rattle.un_tree.specs.Searched.{IsSearchedAt, IsOpenBox, IsBefore}
 use Rattle.un_branching.specs.Searched.{IsLook, IsExpansion}
 use Rattle.un_branching.specs.Searching.{times, is_open, Noted, Searching, Taken, Enters}
 use Rattle.un_branching.proofs.ListedLemmas.{IsLeaf, one_same, one_other, put, length-put, count-put, listed_fresh, listed_put}
 use Rattle.un_branching.proofs.BranchedLemmas.{cases, new_long, new_old, new_branch, new_right, new_left, new_past, boxes, boxes_old}
 use Rattle.un_branching.proofs.BranchedLemmas.{boxes_right, boxes_left}
-use Rattle.un_branching.proofs.LinkLemmas.{earlier_more, pushed, pushed_long, pushed_under, pushed_box}
-use Rattle.un_branching.proofs.BoxLemmas.{some_of, half_box}
+use Rattle.un_branching.proofs.LinkLemmas.{earlier_more, pushed, pushed_long, pushed_under, pushed_split, pushed_box}
+use Rattle.un_branching.proofs.BoxLemmas.{some_of, half_box, splits_box}
 use Rattle.un_branching.proofs.HeapLemmas.{Adds, adds, adds_from}
 
 abbrev pub is_branch : Node → ℕ
@@ -283,24 +284,23 @@ module _ (root : Sets) (fix : Sets → Option Sets) (bound : Sets → ℕ → Ty
           ∙ ap (λ (e : Entry). is_open e.node) (sym (new_past es k v x l r t.own.there j far)))
     ]
 
-    known' : v.0 < length root
-    known' =
+    split' : Splits (box k) v x
+    split' =
         let f = some_of (fix (box k)) splits in
-        let b = t.tree.inside k t.own.there in
-        let le = inside (box k) f.0 b f.1 in
-        omega (arith, f.2.0, le.0.long, b.0.long)
+        let le = inside (box k) f.0 (t.tree.inside k t.own.there) f.1 in
+        splits_box (box k) f.0 v x le.0 le.1 f.2
 
     abbrev bs' : List (Option Link)
     bs' = bs ++ top.link ∷ []
 
     branches' : HaveParents root bs'
-    branches' = pushed root bs t.branches top.link (box k) t.own.earlier t.own.known t.own.led
+    branches' = pushed root bs t.branches top.link (box k) t.own.earlier t.own.split t.own.led
 
     abbrev above' : ℕ → Sets
     above' = boxes t.branches.box (length bs) (box k) (box k)
 
     longer : length bs' ≡ length bs + 1
-    longer = pushed_long root bs t.branches top.link (box k) t.own.earlier t.own.known t.own.led
+    longer = pushed_long root bs t.branches top.link (box k) t.own.earlier t.own.split t.own.led
 
     abbrev Note : OpenNode → Type 0
     Note = Noted root fix bound (length New) box' bs' above'
@@ -312,8 +312,8 @@ module _ (root : Sets) (fix : Sets → Option Sets) (bound : Sets → ℕ → Ty
           there = omega (arith, h.there, long');
           cost = subst (λ (c : Sets). bound c w.least) (sym place) h.cost;
           earlier = earlier_more (length bs) (length bs') w.link (omega (arith, longer)) h.earlier;
-          known = h.known;
-          led = place ∙ (h.led ∙ sym (pushed_under root bs t.branches top.link (box k) t.own.earlier t.own.known t.own.led w.link
+          split = pushed_split root bs t.branches top.link (box k) t.own.earlier t.own.split t.own.led w.link h.earlier h.split;
+          led = place ∙ (h.led ∙ sym (pushed_under root bs t.branches top.link (box k) t.own.earlier t.own.split t.own.led w.link
               h.earlier));
         }
 
@@ -327,7 +327,7 @@ module _ (root : Sets) (fix : Sets → Option Sets) (bound : Sets → ℕ → Ty
           there = omega (arith, at, lt, long');
           cost = subst (λ (c : Sets). bound c w.least) (sym place) cost;
           earlier = rw link (omega (arith, longer));
-          known = rw link known';
+          split = rw link (subst (λ (b : Sets). Splits b v x) (sym (boxes_right t.branches.box (length bs) (box k) (box k))) split');
           led = place ∙ (sym under ∙ ap (box_under root above') (sym link));
         }
 
@@ -338,7 +338,7 @@ module _ (root : Sets) (fix : Sets → Option Sets) (bound : Sets → ℕ → Ty
 
     above_is : branches'.box ≡ above'
     unfolding branches'
-    above_is = pushed_box root bs t.branches top.link (box k) t.own.earlier t.own.known t.own.led
+    above_is = pushed_box root bs t.branches top.link (box k) t.own.earlier t.own.split t.own.led
 
     -- **the search goes on**
     pub went : Searching root fix bound New bs' ws2
@@ -365,6 +365,17 @@ module _ (root : Sets) (fix : Sets → Option Sets) (bound : Sets → ℕ → Ty
       → reached root ps ≡ t.tree.grown.box top.place
   taken_path us ds ps e p h = ap (reached root) p ∙ (h root t.branches.box (subst (λ (vs : List (Option Link)). (i : ℕ)
       → i < length vs → t.branches.box i ≡ box_under root t.branches.box (link_at vs i)) (sym e) t.branches.boxes) ∙ sym t.own.led)
+
+  pub taken_split : (us : List (Option Link)) (ds ps : List Decision) → us ≡ bs → ps ≡ ds
+      → ((r : Sets) (box : ℕ → Sets) → ((i : ℕ) → i < length us → box i ≡ box_under r box (link_at us i))
+      → ((i : ℕ) → i < length us → IsSplit box (link_at us i)) → IsSplit box top.link → AllSplit r ds)
+      → AllSplit root ps
+  taken_split us ds ps e p h = subst (AllSplit root) (sym p)
+      (h root t.branches.box
+      (subst (λ (vs : List (Option Link)). (i : ℕ) → i < length vs → t.branches.box i ≡ box_under root t.branches.box (link_at vs i)) (sym e)
+      t.branches.boxes)
+      (subst (λ (vs : List (Option Link)). (i : ℕ) → i < length vs → IsSplit t.branches.box (link_at vs i)) (sym e) t.branches.split)
+      t.own.split)
 
   pub taken_open : IsOpenBox fix (t.tree.grown.box top.place)
   taken_open = subst (λ (m : Node). IsSearchedAt fix m (t.tree.grown.box top.place)) (open_is (node_of es top.place) (omega (

@@ -8,7 +8,7 @@ use Rattle.un_tree.specs.declared.node.Node.{Node}
 use Rattle.un_tree.specs.declared.node.Node.TheVariants.{Branch, Closed, Open}
 use Rattle.un_branching.specs.declared.growth.Entry.{Entry}
 use Rattle.un_branching.specs.declared.growth.Link.{Link}
-use Rattle.un_tree.specs.Boxes.{decided}
+use Rattle.un_tree.specs.Boxes.{Splits, decided}
 use Rattle.un_tree.specs.Waits.{Waiting, Whole, after}
 
 abbrev pub blank : Entry
@@ -64,20 +64,20 @@ link_at bs i = slice_index_or bs i None
 abbrev pub IsEarlier : ℕ → Option Link → Type 0
 IsEarlier n link = IfSome link (λ l. l.parent < n)
 
--- its decision, if it has one, is on one of the first n variables
-abbrev pub IsKnown : ℕ → Option Link → Type 0
-IsKnown n link = IfSome link (λ l. l.decision.var.0 < n)
+-- its decision, if it has one, splits the box of its parent, where the Branches have these boxes
+abbrev pub IsSplit : (ℕ → Sets) → Option Link → Type 0
+IsSplit box link = IfSome link (λ l. Splits (box l.parent) l.decision.var l.decision.val)
 
 -- the box of a node with this link, where the Branches have these boxes
 abbrev pub box_under : Sets → (ℕ → Sets) → Option Link → Sets
 box_under root box None = root
 box_under root box (Some l) = decided l.decision (box l.parent)
 
--- each Branch but the root has an earlier parent, and a decision on a variable that is there, which makes its box of its parent's
+-- each Branch but the root has an earlier parent, and a decision that splits its parent's box and makes its own
 pub record HaveParents (root : Sets) (bs : List (Option Link)) : Type 0 where
   pub box : ℕ → Sets
   pub earlier : (i : ℕ) → i < length bs → IsEarlier i (link_at bs i)
-  pub known : (i : ℕ) → i < length bs → IsKnown (length root) (link_at bs i)
+  pub split : (i : ℕ) → i < length bs → IsSplit box (link_at bs i)
   pub boxes : (i : ℕ) → i < length bs → box i ≡ box_under root box (link_at bs i)
 
 abbrev pub one : ℕ → ℕ → ℕ

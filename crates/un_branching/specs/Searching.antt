@@ -13,7 +13,7 @@ use Rattle.un_branching.specs.declared.attempt.Entered.{Entered}
 use Rattle.un_branching.specs.declared.attempt.Entered.TheVariants.{Leaf, Solution}
 use Rattle.un_tree.specs.Boxes.{IsBox}
 use Rattle.un_tree.specs.Searched.{IsSearchedAt, IsBefore}
-use Rattle.un_branching.specs.Growths.{Grown, HaveParents, IsEarlier, IsKnown, box_under, node_of, one}
+use Rattle.un_branching.specs.Growths.{Grown, HaveParents, IsEarlier, IsSplit, box_under, node_of, one}
 
 -- the root, with its least cost
 abbrev pub root_node : ℕ → OpenNode
@@ -51,7 +51,7 @@ module _ (root : Sets) (fix : Sets → Option Sets) (least : Sets → ℕ → Ty
     pub there : w.place < n
     pub cost : least (box w.place) w.least
     pub earlier : IsEarlier (length bs) w.link
-    pub known : IsKnown (length root) w.link
+    pub split : IsSplit above w.link
     pub led : box w.place ≡ box_under root above w.link
 
   -- the open nodes wait

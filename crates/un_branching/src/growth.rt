@@ -1,9 +1,10 @@
 //! A tree that grows: a list of nodes in which each knows the next one, and the parents of its Branches.
 
-ghost use Rattle.std.specs.Prelude.{◌≡◌, ℕ, ◌+◌, ◌<◌, ◌^◌, All, [], ◌∷◌, ◌++◌, length, OnOk, IfOk, None};
+ghost use Rattle.std.specs.Prelude.{◌≡◌, ℕ, ◌+◌, ◌<◌, ◌^◌, [], ◌∷◌, ◌++◌, length, OnOk, IfOk, None};
 ghost use Rattle.un_domains.specs.Sets.{Sets};
 ghost use Rattle.un_tree.specs.Boxes.{reached};
-ghost use Rattle.un_branching.specs.Growths.{link_at, link_to, box_under, IsEarlier, IsKnown, opened, listing, branched, Stays};
+ghost use Rattle.un_walk.specs.Stands.{AllSplit};
+ghost use Rattle.un_branching.specs.Growths.{link_at, link_to, box_under, IsEarlier, IsSplit, opened, listing, branched, Stays};
 
 use std::alloc::{AllocError, Global};
 use un_base::ids::VarId;
@@ -72,8 +73,10 @@ pub fn path_to(
     ensures leads { IfOk result (λ path. (root : Sets) (box : ℕ → Sets)
         → ((i : ℕ) → i < length branches.now → box i ≡ box_under root box (link_at branches.now i))
         → reached root path.items ≡ box_under root box link) }
-    ensures known { IfOk result (λ path. (n : ℕ) → ((i : ℕ) → i < length branches.now → IsKnown n (link_at branches.now i))
-        → IsKnown n link → All (λ d. d.var.0 < n) path.items) }
+    ensures split { IfOk result (λ path. (root : Sets) (box : ℕ → Sets)
+        → ((i : ℕ) → i < length branches.now → box i ≡ box_under root box (link_at branches.now i))
+        → ((i : ℕ) → i < length branches.now → IsSplit box (link_at branches.now i))
+        → IsSplit box link → AllSplit root path.items) }
 {
     let mut path = Vec::new(alloc);
     let mut at = link;

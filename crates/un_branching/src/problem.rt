@@ -1,10 +1,11 @@
 //! What a search asks of a problem.
 
-ghost use Rattle.std.specs.Prelude.{◌≡◌, ℕ, ◌<◌, ◌≤◌, List, length, All, Option, Some, None, IfOk};
+ghost use Rattle.std.specs.Prelude.{◌≡◌, ℕ, ◌≤◌, List, Option, Some, None, IfOk};
 ghost use Rattle.un_domains.specs.Sets.{Sets, IsIn, NoneEmpty};
 ghost use Rattle.un_domains.specs.Order.{Below};
 ghost use Rattle.un_tree.specs.Boxes.{reached, IsBox};
 ghost use Rattle.un_tree.specs.Searched.{IsOpenBox};
+ghost use Rattle.un_walk.specs.Stands.{AllSplit};
 ghost use Rattle.un_branching.specs.Searched.{IsLook, IsExpansion};
 
 use un_base::ids::VarId;
@@ -65,8 +66,7 @@ pub trait Problem {
     /// Chooses at the box that these decisions lead to, and looks at its sides.
     fn expand(&self, room: &mut Self::Room, path: &[Decision]) -> Result<Expansion, NoMemory>
         requires ready { is_ready self.now room.old }
-        requires known { All (λ d. d.var.0 < length (root self.now)) path.now }
-        requires inside { IsBox (root self.now) (reached (root self.now) path.now) }
+        requires split { AllSplit (root self.now) path.now }
         requires open { IsOpenBox (fix self.now) (reached (root self.now) path.now) }
         ensures ready { IfOk result (λ e. is_ready self.now room.new) }
         ensures expansion { IfOk result

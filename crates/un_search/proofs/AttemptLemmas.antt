@@ -30,7 +30,6 @@ use Rattle.un_search.specs.declared.attempt.Tried.{Tried}
 use Rattle.un_search.specs.declared.attempt.Tried.TheVariants.{Found, Refuted, Cut}
 use Rattle.un_search.specs.Answers.{IsRefuted, IsCutOff, IsAnswerOf, IsByRoot, OnFound, OnRefuted, OnCut}
 use Rattle.un_certificate.specs.ModelLaws.{posted_empty, posted_keeps}
-use Rattle.un_levels.specs.Levels.{IsReady, Leveled, Sheet}
 use Rattle.un_engine.specs.Ends.{IsAt, IsEnd}
 use Rattle.un_engine.specs.Engines.{State}
 use Rattle.un_kinds.specs.AnyProps.{cut_of}
@@ -41,7 +40,6 @@ use Rattle.un_prop.specs.declared.propagator.Scratch.{Scratch}
 use Rattle.un_ir.specs.Extended.{IsExtended}
 use Rattle.un_isa.specs.Fit.{IsFit}
 use Rattle.un_model.specs.Variables.{IsModel}
-use Rattle.un_tree.specs.declared.node.Decision.{Decision}
 use Rattle.un_branching.proofs.EndLemmas.{fails}
 use Rattle.un_branching.specs.declared.problem.Look.TheVariants.{Failed}
 use Rattle.un_certificate.specs.Posted.{ArePosted}
@@ -52,7 +50,7 @@ abbrev AllBoxes : Sets → List Waiting → Type 0
 AllBoxes root [] = ⊤
 AllBoxes root (Whole b ∷ ws) = IsBox root b × AllBoxes root ws
 
-some_lost : (P : Sets → Type 0) (c : Option Sets) → MatchOption c ⊥ P → c ≡ None → ⊥
+pub some_lost : (P : Sets → Type 0) (c : Option Sets) → MatchOption c ⊥ P → c ≡ None → ⊥
 some_lost P None h e = h
 some_lost P (Some f) h e = cc e
 
@@ -97,19 +95,6 @@ module _ (m : Model) (limit : Option ℕ) (empty : (b : Sets) → IsBox (root_of
       → IsStopped (root_of m) (fix_at m limit) (IsLeast m) (IsBelow m limit) n t low → IsCutOff m limit n t low
   cut_off_by n t low full h =
       record { certificate = certified t full h.tree; some = h.some; many = h.many; lowest = h.lowest }
-
--- stores at the first box, with no decision
-pub fresh_at : (root : Sets) (fix : Sets → Option Sets) (ds : List Decision) (cuts ends : Sheet) (F : Type 0) → ds ≡ [] → F
-    → NoneEmpty root → cuts.sets ≡ root → cuts.marked ≡ [] → fix root ≡ Some ends.sets → ends.marked ≡ []
-    → (ds ≡ []) × IsReady root fix ds cuts ends F
-fresh_at root fix ds cuts ends F none fit full box unmarked end fresh = (
-  none,
-  subst (λ (es : List Decision). IsReady root fix es cuts ends F) (sym none) (record {
-    fit = fit;
-    at = subst (λ (ms : List Sets). Leveled root fix root [] ms ends.sets) (sym fresh) ((Below-refl root, full), end);
-    cut = record { sets = box; marked = unmarked };
-  }),
-)
 
 -- the tree of a first box on which the rounds fail
 pub closed_root : (m : Model) (limit : Option ℕ) (ps : List AnyProp) (n : ℕ) (t : List Node) → ArePosted m limit ps → NoneEmpty (root_of m)

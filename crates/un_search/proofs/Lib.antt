@@ -2,6 +2,7 @@ pub mod AttemptLemmas
 pub mod DiveLemmas
 pub mod EnoughLemmas
 pub mod EnoughPins
+pub mod PlaceLemmas
 pub mod RootLemmas
 pub mod RoundLemmas
 pub mod SolveLemmas

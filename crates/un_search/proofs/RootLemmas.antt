@@ -18,8 +18,6 @@ use Rattle.un_post.specs.Posts.{ReadsFrom, fix_at}
 use Rattle.un_post.specs.declared.lower.Lowered.{Lowered}
 use Rattle.un_engine.proofs.EngineLaws.{failed_is, stable_is}
 use Rattle.un_engine.specs.Engines.{State}
-use Rattle.un_tree.specs.declared.node.Decision.{Decision}
-use Rattle.un_levels.specs.Levels.{IsReady, Leveled, Sheet}
 use Rattle.un_certificate.proofs.Posting.{are_posted}
 use Rattle.un_model.specs.Boxes.{root_of}
 use Rattle.un_certificate.specs.ModelLaws.{posted_inside}
@@ -29,38 +27,7 @@ use Rattle.un_search.specs.Stores.{AreStores}
 use Rattle.un_search.specs.declared.root.Root.{Root}
 use Rattle.un_search.specs.declared.rounds.ModelStores.{ModelStores}
 
-leveled_none : (root : Sets) (fix : Sets → Option Sets) (ms : List Sets) (s : Sets) → Leveled root fix root [] ms s
-    → (ms ≡ []) × (fix root ≡ Some s)
-leveled_none root fix [] s h = (refl, h.1)
-leveled_none root fix (m ∷ ms) s h = absurd h
-
-abbrev cuts_of : ModelStores → Sheet
-cuts_of s = record { sets = s.cuts.sets; marked = s.cuts.marked }
-
-abbrev ends_of : ModelStores → Sheet
-ends_of s = record { sets = s.engine.store.sets; marked = s.engine.store.marked }
-
 module _ (m : Model) (limit : Option ℕ) where
-  abbrev Fits : ModelStores → Type 0
-  Fits s = AreStores m limit s.engine.props s.engine.store.sets s.cuts.sets s.scratch
-
-  -- stores that are ready at the end of no decision are at the first box
-  pub back_at_root : (first s : ModelStores) (ds : List Decision) → AreAtRoot m limit first → ds ≡ []
-      → IsReady (root_of m) (fix_at m limit) ds (cuts_of s) (ends_of s) (Fits s) → AreAtRoot m limit s
-  back_at_root first s ds h none ready =
-      let r : IsReady (root_of m) (fix_at m limit) [] (cuts_of s) (ends_of s) (Fits s) =
-      subst (λ (es : List Decision). IsReady (root_of m) (fix_at m limit) es (cuts_of s) (ends_of s) (Fits s)) none ready in
-      let end = leveled_none (root_of m) (fix_at m limit) s.engine.store.marked s.engine.store.sets r.at in
-      record {
-        postable = h.postable;
-        stores = r.fit;
-        full = h.full;
-        cuts = r.cut.sets;
-        unmarked = r.cut.marked;
-        ends = end.1;
-        fresh = end.0;
-      }
-
   -- each propagator reads what is there
   pub root_reads : (s : ModelStores) → AreAtRoot m limit s → All (ReadsFrom s.engine.store.sets) s.engine.props
   root_reads s h i d lt k x below = rw h.stores.ends_long (h.stores.posted.reads i d lt k x below)
@@ -75,15 +42,21 @@ pub root_kept : (m : Model) (r : Root) (s : ModelStores) → IsRoot m r → s �
     → IsRoot m (record { stores = s; limit = r.limit; limit_at = r.limit_at })
 root_kept m r s h same = record { at = subst (AreAtRoot m (Some r.limit)) (sym same) h.at; place = h.place }
 
--- the same engine in them
-pub engine_kept : (m : Model) (r : Root) (e : State AnyProp) → IsRoot m r → e ≡ r.stores.engine
-    → IsRoot m (record {
-      stores = record { engine = e; cuts = r.stores.cuts; scratch = r.stores.scratch; order = r.stores.order };
-      limit = r.limit;
-      limit_at = r.limit_at;
-    })
-engine_kept m r e h same = root_kept m r (record { engine = e; cuts = r.stores.cuts; scratch = r.stores.scratch; order = r.stores.order }) h
-    (ap (λ (x : State AnyProp). record { engine = x; cuts = r.stores.cuts; scratch = r.stores.scratch; order = r.stores.order }) same)
+-- stores with the same engine and box, in whatever order their variables are split
+pub order_kept : (m : Model) (r : Root) (s : ModelStores) → IsRoot m r → s.engine ≡ r.stores.engine → s.cuts ≡ r.stores.cuts
+    → s.scratch ≡ r.stores.scratch → IsRoot m (record { stores = s; limit = r.limit; limit_at = r.limit_at })
+order_kept m r s h engine cuts scratch = record {
+  at = record {
+    postable = h.at.postable;
+    stores = rw (engine, cuts, scratch) h.at.stores;
+    full = h.at.full;
+    cuts = rw cuts h.at.cuts;
+    unmarked = rw cuts h.at.unmarked;
+    ends = rw engine h.at.ends;
+    fresh = rw engine h.at.fresh;
+  };
+  place = h.place;
+}
 
 -- a root under a limit is under one that is no lower than a number below it
 pub root_above : (m : Model) (r : Option Root) (limit n : ℕ) → IfSome r (λ (k : Root). IsRoot m k × (k.limit ≡ limit)) → n ≤ limit

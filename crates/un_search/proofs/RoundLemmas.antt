@@ -23,7 +23,6 @@ use Rattle.un_model.specs.declared.model.Model.{Model}
 use Rattle.un_post.specs.Posts.{fix_at}
 use Rattle.un_tree.specs.Boxes.{IsBox, decided}
 use Rattle.un_tree.specs.declared.node.Decision.{Decision}
-use Rattle.un_levels.specs.Levels.{IsEnd, IsRun}
 use Rattle.un_model.specs.Boxes.{root_of}
 use Rattle.un_engine.proofs.EngineLaws.{all_snoc}
 use Rattle.un_bound.specs.declared.relax.RelaxAnswer.{RelaxAnswer}
@@ -69,57 +68,6 @@ value_more s n v x h is some few = record {
 
 pub values_single : (s : Sets) (x : List ℕ) → HasValues s (length s) x → IsSingle x s
 values_single s x h = record { long = h.long; each = h.each }
-
--- a cut that leaves a box with no empty set does not fail
-cut_leaves : (q : ℕ → Bool) (v : ℕ) (b : Sets) → v < length b → NoneEmpty (kept q b v) → cut_by q v b ≡ Some (kept q b v)
-cut_leaves q v b there full =
-    let at : 0 < length (set_at (kept q b v) v) = full v (omega (arith, there, length-set b v (filter q (set_at b v)))) in
-    let some : 0 < length (filter q (set_at b v)) =
-    subst (λ (xs : List ℕ). 0 < length xs) (get_or-set_same b v (filter q (set_at b v)) [] there) at in
-    let no : nat_eq (length (filter q (set_at b v))) 0 ≡ false = grind (arith, nat_tests, some) in
-    ap (λ (c : Bool). cond c None (Some (kept q b v))) no
-
-run_is : (c : Option Sets) (new : Sets) (answer : Fix) (stable : Bool) → IsFix c new answer → (answer ≡ Rests → stable ≡ true)
-    → (answer ≡ Lost → stable ≡ false) → IsRun c new stable
-run_is None new answer stable h went lost = lost h.0
-run_is (Some left) new answer stable h went lost = (went h.0, h.1)
-
--- the end of a side's cut box is that of the side
-pub side_run : (cut fix : Sets → Option Sets) (b : Sets) (d : Decision) (new : Sets) (answer : Fix) (stable : Bool)
-    → ((c : Sets) → cut c ≡ fix c) → d.var.0 < length b → NoneEmpty (decided d b)
-    → IsFix (option_and_then cut (cut_by (side_test d.side d.val) d.var.0 b)) new answer
-    → (answer ≡ Rests → stable ≡ true) → (answer ≡ Lost → stable ≡ false) → IsRun (fix (decided d b)) new stable
-side_run cut fix b d new answer stable same there full h went lost =
-    subst (λ (c : Option Sets). IsRun c new stable)
-    (ap (option_and_then cut) (cut_leaves (side_test d.side d.val) d.var.0 b there full) ∙ same (decided d b))
-    (run_is (option_and_then cut (cut_by (side_test d.side d.val) d.var.0 b)) new answer stable h went lost)
-
-module _ (m : Model) (limit : Option ℕ) where
-  -- other sets, for as many variables
-  pub stores_kept : (ps qs : List AnyProp) (ends ends' cuts cuts' : Sets) (scratch scratch' : Scratch) → AreStores m limit ps ends cuts scratch
-      → qs ≡ ps → length ends' ≡ length ends → length cuts' ≡ length cuts
-      → HasRoom (length (root_of m)) (largest_horizon m.ext.blocks + 1) scratch' → AreStores m limit qs ends' cuts' scratch'
-  stores_kept ps qs ends ends' cuts cuts' scratch scratch' h same e c room = record {
-    model = h.model;
-    extended = h.extended;
-    table = h.table;
-    posted = subst (ArePosted m limit) (sym same) h.posted;
-    ends_long = e ∙ h.ends_long;
-    cuts_long = c ∙ h.cuts_long;
-    room = room;
-  }
-
-  -- the rounds leave no set empty
-  pub end_live : (ps : List AnyProp) (ends cuts : Sets) (scratch : Scratch) → AreStores m limit ps ends cuts scratch
-      → IsEnd (root_of m) (fix_at m limit) ends → NoneEmpty ends
-  end_live ps ends cuts scratch h e = (posted_inside m limit ps h.posted e.box ends e.inside e.ends).1
-
-pub decided_long : (d : Decision) (b : Sets) → length (decided d b) ≡ length b
-decided_long d b = length-set b d.var.0 (filter (side_test d.side d.val) (set_at b d.var.0))
-
--- the sets of the last mark are as many
-pub last_long : (all ms : List Sets) (t : Sets) (n : ℕ) → All (λ (s : Sets). length s ≡ n) all → all ≡ ms ++ t ∷ [] → length t ≡ n
-last_long all ms t n h e = (all_snoc (λ (s : Sets). length s ≡ n) ms t (subst (All (λ (s : Sets). length s ≡ n)) e h)).1
 
 module _ (m : Model) (limit : Option ℕ) (ps : List AnyProp) (h : ArePosted m limit ps) (b f : Sets) (i : IsBox (root_of m) b)
     (e : fix_at m limit b ≡ Some f) where

@@ -11,15 +11,17 @@ ghost use Rattle.un_tree.specs.declared.node.Node.TheVariants.{Closed};
 ghost use Rattle.un_search.specs.Answers.{OnFound, OnRefuted, OnCut, AreEnough, IsRefuted, IsCutOff, IsByRoot, IsAnswerOf};
 ghost use Rattle.un_search.specs.Roots.{AreAtRoot, IsLost, IsPosting, IsRoot};
 
+use crate::expand::ModelRounds;
 use crate::root::{Posting, Root, begin, root_under};
-use crate::rounds::{ModelRounds, ModelStores};
+use crate::rounds::{ModelStores, first_place, stores_of};
 use std::alloc::Global;
 use un_base::memory_error::NoMemory;
 use un_branching::attempt::{Tried as Answer, attempt as attempt_by};
 use un_branching::growth::leaf_alone;
-use un_levels::levels::{Dive, Levels, to_first};
 use un_lists::items::Items;
 use un_model::model::{Model, Solution};
+use un_stand::jump::to_first;
+use un_stand::rules::Rules;
 use un_tree::node::{Node, Tree};
 
 /// What an attempt found: a solution that costs less than the limit; a tree without an open leaf, so that there is none; or a tree of
@@ -68,15 +70,16 @@ fn search(
     ensures enough { AreEnough m.now nodes → IfOk result (λ a. OnCut (λ t low. ⊥) a.tried) }
     ensures root { IfOk result (λ a. AreAtRoot m.now limit a.stores) }
 {
-    let rounds = ModelRounds { alloc, m, limit };
-    let dive = Dive { rounds };
-    let path = Vec::new(alloc);
-    let mut room = Levels { stores, path };
-    let tried = attempt_by(alloc, &dive, &mut room, nodes)?;
-    to_first(&dive.rounds, &mut room);
+    let rounds = ModelRounds {
+        alloc,
+        rules: Rules { m, limit },
+    };
+    let mut place = first_place(alloc, stores);
+    let tried = attempt_by(alloc, &rounds, &mut place, nodes)?;
+    to_first(&rounds.rules, &mut place.room);
     Ok(Attempted {
         tried: answer_of(tried),
-        stores: room.stores,
+        stores: stores_of(&rounds.rules, place),
     })
 }
 

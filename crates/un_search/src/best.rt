@@ -1,12 +1,11 @@
 //! The best solution so far.
 
 ghost use Rattle.std.specs.Prelude.{◌≡◌, ◌<◌, ◌≤◌, IfOk};
-ghost use Rattle.un_ir.specs.Extended.{IsExtended};
-ghost use Rattle.un_isa.specs.Fit.{IsFit};
 ghost use Rattle.un_model.specs.Cost.{cost_of};
 ghost use Rattle.un_model.specs.Solutions.{IsSolution};
 ghost use Rattle.un_model.specs.Variables.{IsModel};
 ghost use Rattle.un_merges.specs.Merges.{HasNoMerge};
+ghost use Rattle.un_post.specs.Postable.{IsPostable};
 ghost use Rattle.un_search.specs.Solved.{IsBest};
 
 use std::alloc::Global;
@@ -29,9 +28,7 @@ pub struct Best {
 
 /// What a solution costs.
 pub(crate) fn price(m: &Model, solution: &Solution) -> u64
-    requires model { IsModel m.now }
-    requires extended { IsExtended m.now.ext }
-    requires fit { IsFit m.now.ext.table }
+    requires postable { IsPostable m.now }
     ensures { result ≡ cost_of m.now solution.now }
 {
     cost(m, solution)
@@ -39,9 +36,7 @@ pub(crate) fn price(m: &Model, solution: &Solution) -> u64
 
 /// A solution with what it costs.
 fn priced(m: &Model, solution: Solution) -> Best
-    requires model { IsModel m.now }
-    requires extended { IsExtended m.now.ext }
-    requires fit { IsFit m.now.ext.table }
+    requires postable { IsPostable m.now }
     ensures solution { result.solution ≡ solution }
     ensures cost { result.cost ≡ cost_of m.now solution }
 {
@@ -72,9 +67,7 @@ pub(crate) fn best_of(
     solution: Solution,
     nodes: u32,
 ) -> Result<Best, NoMemory>
-    requires model { IsModel m.now }
-    requires extended { IsExtended m.now.ext }
-    requires fit { IsFit m.now.ext.table }
+    requires postable { IsPostable m.now }
     requires solution { IsSolution m.now solution }
     ensures best { IfOk result (IsBest m.now nodes) }
     ensures no_dearer { IfOk result (λ b. b.cost ≤ cost_of m.now solution) }

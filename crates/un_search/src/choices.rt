@@ -9,7 +9,15 @@ use crate::order::BlockOrder;
 use std::alloc::{AllocError, Global};
 use un_base::ids::VarId;
 use un_domains::store::Store;
-use un_levels::rounds::Choice;
+
+/// Where a box is split in two.
+#[derive(Clone, Copy)]
+pub(crate) struct Choice {
+    /// The variable whose values are split.
+    pub var: VarId,
+    /// The greatest value of the left side; the right side has the values above it.
+    pub val: u32,
+}
 
 /// Whether this is a variable with two values.
 fn has_two(store: &Store, v: VarId) -> bool

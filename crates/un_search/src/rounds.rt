@@ -1,41 +1,32 @@
-//! The rounds of a model's propagators, for a search.
+//! The stores of a search: at the first box, and where the search stands in its tree.
 
-ghost use Rattle.std.specs.Prelude.{◌≡◌, ◌+◌, ◌<◌, ◌++◌, ◌∷◌, [], OnOk, IfOk, true, false, length};
+ghost use Rattle.std.specs.Prelude.{◌≡◌, ◌≢◌, ◌+◌, [], IfOk, None, Some, length};
 ghost use Rattle.un_domains.specs.Sets.{NoneEmpty};
-ghost use Rattle.un_tree.specs.Boxes.{decided};
-ghost use Rattle.un_ir.specs.Extended.{IsExtended};
-ghost use Rattle.un_isa.specs.Fit.{IsFit};
 ghost use Rattle.un_prop.specs.Pruning.{HasRoom};
-ghost use Rattle.un_model.specs.Variables.{IsModel};
-ghost use Rattle.un_bound.specs.Relaxations.{IsRelaxation};
-ghost use Rattle.un_post.specs.Posts.{largest_horizon};
 ghost use Rattle.un_model.specs.Boxes.{root_of};
-ghost use Rattle.un_search.specs.Looks.{IsLookOf};
-ghost use Rattle.un_certificate.specs.Posted.{IsPosted};
+ghost use Rattle.un_post.specs.Posts.{fix_at};
+ghost use Rattle.un_stand.specs.Rooms.{path_of};
+ghost use Rattle.un_walk.specs.Stands.{IsStandAt};
+ghost use Rattle.un_search.specs.Stores.{IsPlace};
 
-use crate::choices::{choice_of, first_open, single_values};
-use crate::lifts::first_lift;
 use crate::order::{BlockOrder, order_of};
 use std::alloc::Global;
 use un_base::memory_error::NoMemory;
-use un_bound::relax::{RelaxAnswer, relax_bound};
-use un_branching::problem::Look;
-use un_domains::side::Side;
 use un_domains::store::Store;
 use un_engine::engine::Engine;
 use un_kinds::any::AnyProp;
-use un_levels::rounds::{Choice, Rounds};
 use un_model::model::Model;
 use un_prop::propagator::Scratch;
-use un_prop::run::Fix;
-use un_tree::node::Decision;
+use un_stand::room::Room;
+use un_stand::rules::Rules;
+use un_walk::stand::first_stand;
 
-/// The stores of a search at a node, with room for looks at them.
+/// The stores of a search at the first box, with room for looks at them.
 #[derive(Drop)]
 pub struct ModelStores {
-    /// The propagators, and a store with what their rounds leave of the node's box, with a mark for each decision.
+    /// The propagators, and a store with what their rounds leave of the box.
     pub engine: Engine<AnyProp>,
-    /// The node's box itself: the first domains cut by the decisions, with a mark for each of them and without any propagation.
+    /// The box itself: the first domains, without any propagation.
     pub cuts: Store,
     /// Room for the relaxation of the box.
     pub scratch: Scratch,
@@ -43,16 +34,15 @@ pub struct ModelStores {
     pub order: Vec<BlockOrder>,
 }
 
-/// A model for which propagators were posted, under a limit on the cost.
+/// Where a search stands in its tree, with room for looks.
 #[derive(Drop)]
-pub struct ModelRounds<'a> {
-    /// The allocator for what the rounds and looks need.
-    pub alloc: Global,
-    /// The model whose solutions are searched for.
-    pub m: &'a Model,
-    /// What a solution is to cost less than; None where each solution will do.
-    pub limit: Option<u64>,
-    pub ghost posted: { ∥ IsPosted m.now limit ∥₁ },
+pub struct Place {
+    /// The node's box, and what the rounds leave of it.
+    pub room: Room,
+    /// Room for the relaxation of the box.
+    pub scratch: Scratch,
+    /// The order in which variables are split, block by block.
+    pub order: Vec<BlockOrder>,
 }
 
 /// Stores with room for looks and the order of a model, whose cycles go from 0 to `horizon`.
@@ -77,120 +67,56 @@ pub fn first_stores(
     })
 }
 
-/// Marks a store, and cuts it by a decision.
-fn mark_and_cut(store: &mut Store, decision: Decision) -> Result<(), NoMemory>
-    requires there { decision.var.0 < length store.old.sets }
-    requires live { NoneEmpty store.old.sets }
-    ensures cut { OnOk result (store.new.sets ≡ decided decision store.old.sets) }
-    ensures marked { OnOk result (store.new.marked ≡ store.old.marked ++ store.old.sets ∷ []) }
+/// A place at the first box.
+pub fn first_place(alloc: Global, stores: ModelStores) -> Place
+    requires full { NoneEmpty stores.cuts.sets }
+    requires fresh { stores.cuts.marked ≡ [] }
+    ensures stand { IsStandAt stores.cuts.sets result.room.stand }
+    ensures first { path_of result.room ≡ [] }
+    ensures engine { result.room.engine ≡ Some stores.engine }
+    ensures scratch { result.scratch ≡ stores.scratch }
 {
-    store.mark()?;
-    let _ = match decision.side {
-        Side::AtMost => store.keep_le(decision.var, decision.val),
-        Side::Above => store.keep_gt(decision.var, decision.val),
+    let ModelStores {
+        engine,
+        cuts,
+        scratch,
+        order,
+    } = stores;
+    let stand = first_stand(alloc, cuts);
+    let room = Room {
+        stand,
+        engine: Some(engine),
     };
-    Ok(())
+    Place {
+        room,
+        scratch,
+        order,
+    }
 }
 
-/// Whether the rounds did not fail.
-fn is_stable(fix: Fix) -> bool
-    ensures stable { fix ≡ Fix.Stable → result ≡ true }
-    ensures failed { fix ≡ Fix.Failed → result ≡ false }
+/// The stores of a place at the first box, on which the rounds do not fail.
+pub fn stores_of(rules: &Rules, place: Place) -> ModelStores
+    requires at { IsPlace rules.now place }
+    requires first { path_of place.room ≡ [] }
+    requires rests { fix_at rules.now.m.now rules.now.limit (root_of rules.now.m.now) ≢ None }
+    ensures engine { place.room.engine ≡ Some result.engine }
+    ensures cuts { result.cuts ≡ place.room.stand.cuts }
+    ensures scratch { result.scratch ≡ place.scratch }
 {
-    match fix {
-        Fix::Stable => true,
-        Fix::Failed => false,
+    let _ = rules;
+    let Place {
+        room,
+        scratch,
+        order,
+    } = place;
+    let Room { stand, engine } = room;
+    match engine {
+        None => unreachable!(),
+        Some(engine) => ModelStores {
+            engine,
+            cuts: stand.cuts,
+            scratch,
+            order,
+        },
     }
-}
-
-/// The relaxation of a model in a box.
-fn relaxed(m: &Model, cuts: &Store, scratch: &mut Scratch) -> RelaxAnswer
-    requires model { IsModel m.now }
-    requires extended { IsExtended m.now.ext }
-    requires table { IsFit m.now.ext.table }
-    requires long { length cuts.now.sets ≡ length (root_of m.now) }
-    requires live { NoneEmpty cuts.now.sets }
-    requires room { HasRoom (length (root_of m.now)) (largest_horizon m.now.ext.blocks + 1) scratch.old }
-    ensures answer { IsRelaxation m.now cuts.now.sets result }
-    ensures room { HasRoom (length (root_of m.now)) (largest_horizon m.now.ext.blocks + 1) scratch.new }
-{
-    relax_bound(m, cuts, scratch)
-}
-
-/// An open box with its least cost, or a box without a relaxation.
-fn look_of(answer: RelaxAnswer) -> Look
-    ensures { IsLookOf answer result }
-{
-    match answer {
-        RelaxAnswer::Empty => Look::Failed,
-        RelaxAnswer::Least(least) => Look::Open(least),
-    }
-}
-
-impl Rounds for ModelRounds<'_> {
-    ghost use Rattle.un_bound.specs.Relaxations.{IsLeast};
-    ghost use Rattle.un_post.specs.Posts.{fix_at};
-    ghost use Rattle.un_model.specs.Boxes.{IsBelow};
-    ghost use Rattle.un_search.specs.Stores.{AreStores};
-    ghost use Rattle.un_certificate.specs.ModelLaws.{model_inside, model_keeps, model_parts, model_rises};
-
-    type Stores = ModelStores;
-
-    ghost root = { λ r. root_of r.m.now };
-
-    ghost fix = { λ r. fix_at r.m.now r.limit };
-
-    ghost least = { λ r. IsLeast r.m.now };
-
-    ghost is_good = { λ r. IsBelow r.m.now r.limit };
-
-    ghost cuts = { λ s. record { sets = s.cuts.sets; marked = s.cuts.marked } };
-
-    ghost ends = { λ s. record { sets = s.engine.store.sets; marked = s.engine.store.marked } };
-
-    ghost is_fit = { λ r s. AreStores r.m.now r.limit s.engine.props s.engine.store.sets s.cuts.sets s.scratch };
-
-    fn enter(&self, stores: &mut ModelStores, decision: Decision) -> Result<bool, NoMemory> {
-        mark_and_cut(&mut stores.cuts, decision)?;
-        let fix = stores
-            .engine
-            .decide(decision.var, decision.val, decision.side)?;
-        Ok(is_stable(fix))
-    }
-
-    fn leave(&self, stores: &mut ModelStores) {
-        stores.cuts.facts();
-        stores.cuts.undo();
-        stores.engine.undo();
-    }
-
-    fn look(&self, stores: &mut ModelStores) -> Result<Look, NoMemory> {
-        let store = stores.engine.store();
-        match first_open(store) {
-            None => {
-                let values = single_values(self.alloc, store)?;
-                Ok(Look::Found(values))
-            }
-            Some(_) => {
-                let answer = relaxed(self.m, &stores.cuts, &mut stores.scratch);
-                Ok(look_of(answer))
-            }
-        }
-    }
-
-    fn choose(&self, stores: &mut ModelStores) -> Result<Choice, NoMemory> {
-        let lift = first_lift(&mut stores.engine, stores.order.as_slice())?;
-        match lift {
-            Some(choice) => Ok(choice),
-            None => Ok(choice_of(stores.engine.store(), self.m.flag, stores.order.as_slice())),
-        }
-    }
-
-    ghost inside = { λ r b f i e. model_inside r.m.now r.limit r.posted b f i e };
-
-    ghost keeps = { λ r b x i there good none. model_keeps r.m.now r.limit r.posted b x i there good none };
-
-    ghost rises = { λ r b c k n i j below large small. model_rises r.m.now b c k n below large small };
-
-    ghost parts = { λ r b c i j le none. model_parts r.m.now r.limit r.posted b c i j le none };
 }

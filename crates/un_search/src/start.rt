@@ -16,6 +16,7 @@ ghost use Rattle.un_search.specs.declared.root.Incumbent.{Incumbent};
 use crate::best::{BRANCH_NODES, best_of, price};
 use crate::lifts::lift_of;
 use crate::near::best_near;
+use crate::order::note_ends;
 use crate::root::{Incumbent, Posting, Root, first_root, lowered};
 use std::alloc::{AllocError, Global};
 use un_base::ids::VarId;
@@ -38,18 +39,44 @@ const FURTHER_BLOCKS: u32 = 4;
 /// How often blocks may be tried at most.
 const MOST_TRIALS: u32 = 64_000;
 
+/// How many operations may be tried at most, were each trial one of the largest block: the more it has, the longer a trial takes.
+const MOST_OPERATIONS_TRIED: usize = 10_000_000;
+
 /// From so many nodes on better solutions are looked for near the first one.
 const NEAR_NODES: u32 = 100;
 
 /// For so many nodes there is one decision near the first solution, which costs more time than a node.
 const NODES_OF_DECISION: u32 = 4;
 
-/// How often blocks may be tried for the first solution of a function of so many blocks, by a search with so many nodes.
-fn trials(nodes: u32, blocks: u32) -> u32 {
+/// A block with more operations, copies with them, for each of these decisions is not looked at: no window of it comes to its end.
+const OPERATIONS_OF_DECISION: usize = 2;
+
+/// The number of operations of the largest block, copies with them.
+fn largest_block(blocks: &[BlockVars]) -> usize {
+    let mut largest = 0;
+    for block in blocks {
+        largest = block.ops.len().max(largest);
+    }
+    largest
+}
+
+/// How often blocks may be tried at most, where the largest has so many operations.
+fn most_trials(operations: usize) -> u32 {
+    let most = MOST_OPERATIONS_TRIED / operations.max(1);
+    u32::try_from(most)
+        .unwrap_or(MOST_TRIALS)
+        .clamp(TRIALS, MOST_TRIALS)
+}
+
+/// How often these blocks may be tried for the first solution, by a search with so many nodes.
+fn trials(nodes: u32, blocks: &[BlockVars]) -> u32 {
     let first = nodes.saturating_mul(TRIALS_OF_NODE).max(TRIALS);
     let share = first / FURTHER_BLOCKS;
-    let further = share.saturating_mul(blocks.saturating_sub(1));
-    first.saturating_add(further).min(MOST_TRIALS)
+    let others = u32::try_from(blocks.len().saturating_sub(1)).unwrap_or(u32::MAX);
+    let further = share.saturating_mul(others);
+    first
+        .saturating_add(further)
+        .min(most_trials(largest_block(blocks)))
 }
 
 /// The least end that a store leaves, or the least of all where it has no such variable.
@@ -68,7 +95,7 @@ fn least_end(engine: &mut Engine<AnyProp>, end: VarId) -> Result<u32, NoMemory>
     requires live { NoneEmpty engine.old.store.sets }
     ensures same { IfOk result (λ least. engine.new ≡ engine.old) }
 {
-    match lift_of(engine, end)? {
+    match lift_of(engine, end, 0)? {
         None => Ok(end_left(engine.store(), end)),
         Some(lift) => Ok(lift.val.saturating_add(1)),
     }
@@ -117,10 +144,11 @@ pub fn least_ends(alloc: Global, m: &Model) -> Result<Option<Vec<u32>>, NoMemory
     }
 }
 
-/// A solution, where there is one, and what no solution costs less than, as the least ends say.
+/// A solution, where there is one, the least ends of the blocks, and what no solution costs less than, as they say.
 #[derive(Drop)]
 struct Outlook {
     solution: Option<Solution>,
+    ends: Vec<u32>,
     least: u64,
 }
 
@@ -147,19 +175,19 @@ fn made(
     ensures same { IfOk result (λ made. engine.new ≡ engine.old) }
 {
     let ends = ends_in(alloc, engine, m.blocks.as_slice())?;
-    let blocks = u32::try_from(m.blocks.len()).unwrap_or(u32::MAX);
-    let solution = first(alloc, m, ends.as_slice(), trials(nodes, blocks))?;
+    let trials = trials(nodes, m.blocks.as_slice());
+    let solution = first(alloc, m, ends.as_slice(), trials)?;
+    let least = cost_of_ends(m, ends.as_slice());
     Ok(Outlook {
         solution,
-        least: cost_of_ends(m, ends.as_slice()),
+        ends,
+        least,
     })
 }
 
 /// The solution that costs less, the first one on a tie.
 fn cheaper(m: &Model, one: Solution, other: Solution) -> Solution
-    requires model { IsModel m.now }
-    requires extended { IsExtended m.now.ext }
-    requires fit { IsFit m.now.ext.table }
+    requires postable { IsPostable m.now }
     requires one { IsSolution m.now one }
     requires other { IsSolution m.now other }
     ensures solution { IsSolution m.now result }
@@ -176,9 +204,7 @@ fn cheaper(m: &Model, one: Solution, other: Solution) -> Solution
 
 /// The solution that costs less of those that there are.
 fn cheapest(m: &Model, start: Option<Solution>, other: Option<Solution>) -> Option<Solution>
-    requires model { IsModel m.now }
-    requires extended { IsExtended m.now.ext }
-    requires fit { IsFit m.now.ext.table }
+    requires postable { IsPostable m.now }
     requires start { IfSome start (λ s. IsSolution m.now s) }
     requires other { IfSome other (λ s. IsSolution m.now s) }
     ensures solution { IfSome result (λ s. IsSolution m.now s) }
@@ -211,8 +237,18 @@ fn candidate(
     let made = made(alloc, m, engine, nodes)?;
     Ok(Outlook {
         solution: cheapest(m, start, made.solution),
+        ends: made.ends,
         least: made.least,
     })
+}
+
+/// Whether each block has few enough operations for a search near a solution with so many decisions.
+fn is_in_reach(m: &Model, decisions: u32) -> bool {
+    let most = (decisions as usize).saturating_mul(OPERATIONS_OF_DECISION);
+    m.blocks
+        .as_slice()
+        .iter()
+        .all(|block| block.ops.len() <= most)
 }
 
 /// The best solution that is found near one, where there are nodes for it and it costs more than the least.
@@ -228,10 +264,11 @@ fn improved(
     ensures incumbent { IfOk result (IsIncumbent m.now nodes) }
     ensures no_dearer { IfOk result (λ i. i.best.cost ≤ first.best.cost) }
 {
-    if nodes < NEAR_NODES || first.best.cost <= least {
+    let decisions = nodes / NODES_OF_DECISION;
+    if nodes < NEAR_NODES || first.best.cost <= least || !is_in_reach(m, decisions) {
         return Ok(first);
     }
-    best_near(alloc, m, first, nodes, nodes / NODES_OF_DECISION)
+    best_near(alloc, m, first, nodes, decisions)
 }
 
 /// A solution as the best one, with nothing posted.
@@ -291,7 +328,11 @@ fn from_solution(
     ensures incumbent { IfOk result (λ found. IfSome found (IsIncumbent m.now nodes)) }
     ensures no_dearer { IfOk result (λ found. IfSome outlook.solution (λ x. IsSomeAnd found (λ i. i.best.cost ≤ cost_of m.now x))) }
 {
-    let Outlook { solution, least } = outlook;
+    let Outlook {
+        solution,
+        ends: _,
+        least,
+    } = outlook;
     match solution {
         None => Ok(None),
         Some(solution) => {
@@ -320,6 +361,7 @@ fn from_root(
 {
     let mut root = root;
     let outlook = candidate(alloc, m, &mut root.stores.engine, start, nodes)?;
+    note_ends(root.stores.order.as_mut_slice(), outlook.ends.as_slice());
     let found = from_solution(alloc, m, root, outlook, nodes)?;
     Ok(found)
 }

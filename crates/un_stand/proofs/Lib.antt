@@ -1,1 +1,3 @@
+pub mod JumpLemmas
+pub mod LevelLemmas
 pub mod RoomLemmas

@@ -19,13 +19,12 @@ use Rattle.un_prop.specs.Rounds.{fix_of}
 use Rattle.un_domains.specs.Sides.{side_test}
 use Rattle.un_tree.specs.Boxes.{IsBox, Splits, decided, reached}
 use Rattle.un_tree.specs.declared.node.Decision.{Decision}
-use Rattle.un_levels.specs.Levels.{Leveled}
-use Rattle.un_levels.proofs.LevelLemmas.{reached-append, leveled_end, leveled_push, leveled_pop, leveled_long}
 use Rattle.un_model.specs.Boxes.{root_of}
 use Rattle.un_certificate.specs.ModelLaws.{posted_parts, posted_inside}
 use Rattle.un_certificate.specs.Posted.{ArePosted, IsPosted}
 use Rattle.un_stand.specs.Engines.{IsDecided, IsLeft, IsSame, IsUndone, side_end}
-use Rattle.un_stand.specs.Rooms.{AllLost, IsAt, IsEndAt, IsEndBy, IsEngineAt, path_of}
+use Rattle.un_stand.specs.Rooms.{AllLost, IsAt, IsEndAt, IsEndBy, IsEngineAt, Leveled, path_of}
+use Rattle.un_stand.proofs.LevelLemmas.{reached-append, leveled_end, leveled_push, leveled_pop, leveled_long}
 use Rattle.un_walk.specs.Stands.{IsStandAt}
 use Rattle.un_stand.specs.declared.room.Room.{Room}
 use Rattle.un_walk.proofs.Paths.{half_box, last_once, not_nil, side_box, snoc_some}
@@ -87,6 +86,19 @@ module _ (m : Model) (limit : Option ℕ) (ds : List Decision) (o : Option (Stat
       by : (dead : List Decision) → (dead ≢ [] → fix_at m limit (reached (root_of m) ds) ≡ None) → dead ≡ []
       by [] lost = refl
       by (d ∷ dead) lost = absurd (rests (lost (λ is. cc is)))
+
+-- where the rounds do not fail, the engine has a mark for each decision
+pub engine_here : (m : Model) (limit : Option ℕ) (ds : List Decision) (o : Option (State AnyProp)) → IsEndBy m limit ds o
+    → (e : State AnyProp) → o ≡ Some e → fix_at m limit (reached (root_of m) ds) ≢ None → IsEngineAt m limit ds e
+engine_here m limit ds o h e is rests =
+    let whole : ds ≡ h.live = h.path ∙ (ap (λ (xs : List Decision). h.live ++ xs) (none_dead m limit ds o h rests) ∙ append-nil h.live) in
+    subst (λ (xs : List Decision). IsEngineAt m limit xs e) (sym whole) (subst (IsEndAt m limit h.live) is h.end)
+
+-- and is at what they leave
+pub end_here : (m : Model) (limit : Option ℕ) (r : Room) → IsAt m limit r → (e : State AnyProp) → r.engine ≡ Some e
+    → fix_at m limit (reached (root_of m) (path_of r)) ≢ None → fix_at m limit r.stand.cuts.sets ≡ Some e.store.sets
+end_here m limit r h e is rests = ap (fix_at m limit) h.stand.sets
+    ∙ rests_some m limit (path_of r) r.engine h.rounds e is (none_dead m limit (path_of r) r.engine h.rounds rests)
 
 -- the marks tell whether the rounds fail
 module _ (m : Model) (limit : Option ℕ) (r : Room) (h : IsAt m limit r) (e : State AnyProp) (is : r.engine ≡ Some e) where

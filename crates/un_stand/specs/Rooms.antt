@@ -9,9 +9,8 @@ use Rattle.un_kinds.specs.declared.any.AnyProp.{AnyProp}
 use Rattle.un_model.specs.Variables.{IsModel}
 use Rattle.un_model.specs.declared.model.Model.{Model}
 use Rattle.un_post.specs.Posts.{fix_at}
-use Rattle.un_tree.specs.Boxes.{decided, reached}
+use Rattle.un_tree.specs.Boxes.{IsBox, decided, reached}
 use Rattle.un_tree.specs.declared.node.Decision.{Decision}
-use Rattle.un_levels.specs.Levels.{AtPath}
 use Rattle.un_model.specs.Boxes.{root_of}
 use Rattle.un_certificate.specs.Posted.{ArePosted, IsPosted}
 use Rattle.un_walk.specs.Stands.{IsStandAt}
@@ -31,11 +30,18 @@ abbrev pub AllLost : (Sets → Option Sets) → Sets → List Decision → Type 
 AllLost fix b [] = ⊤
 AllLost fix b (d ∷ ds) = (fix (decided d b) ≡ None) × AllLost fix (decided d b) ds
 
+-- from box b on, a mark for each decision: the marks and the last sets are what rounds leave of the boxes on the way
+abbrev pub Leveled : Sets → (Sets → Option Sets) → Sets → List Decision → List Sets → Sets → Type 0
+Leveled root fix b [] [] s = IsBox root b × (fix b ≡ Some s)
+Leveled root fix b [] (m ∷ ms) s = ⊥
+Leveled root fix b (d ∷ ds) [] s = ⊥
+Leveled root fix b (d ∷ ds) (m ∷ ms) s = IsBox root b × (fix b ≡ Some m) × Leveled root fix (decided d b) ds ms s
+
 -- an engine of what is posted, at what the rounds leave of the box of decisions, with a mark for each
 pub record IsEngineAt (m : Model) (limit : Option ℕ) (ds : List Decision) (e : State AnyProp) : Type 0 where
   pub posted : ArePosted m limit e.props
   pub long : length e.store.sets ≡ length (root_of m)
-  pub at : AtPath (root_of m) (fix_at m limit) ds (record { sets = e.store.sets; marked = e.store.marked })
+  pub at : Leveled (root_of m) (fix_at m limit) (root_of m) ds e.store.marked e.store.sets
 
 -- there is no engine where the rounds fail on the first box
 abbrev pub IsEndAt : Model → Option ℕ → List Decision → Option (State AnyProp) → Type 0

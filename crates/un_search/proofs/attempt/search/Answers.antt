@@ -1,15 +1,34 @@
-use Rattle.un_post.specs.Posts.{fix_at}
-use Rattle.un_model.specs.Boxes.{root_of}
-use Rattle.un_search.proofs.AttemptLemmas.{answers, by_root, fresh_at}
+use Rattle.std.proofs.Common.{sym, subst}
+use Rattle.un_domains.specs.Sets.{NoneEmpty}
+use Rattle.un_search.proofs.AttemptLemmas.{answers, by_root}
 use Rattle.un_search.proofs.EnoughLemmas.{not_cut}
-use Rattle.un_search.proofs.RootLemmas.{back_at_root}
+use Rattle.un_search.proofs.PlaceLemmas.{back_at_root, first_is, root_rests}
 use Rattle.un_search.proofs.attempt.search.Goals as goal
+
+pub first_place-requires-clause-full : goal.first_place-requires-clause-full
+first_place-requires-clause-full c = subst NoneEmpty (sym c.requires.root.cuts) c.requires.root.full
+
+pub first_place-requires-clause-fresh : goal.first_place-requires-clause-fresh
+first_place-requires-clause-fresh c = c.requires.root.unmarked
 
 pub attempt-requires-clause-fresh : goal.attempt-requires-clause-fresh
 attempt-requires-clause-fresh c =
-    let r = c.requires.root in
-    fresh_at (root_of c.args.m.now) (fix_at c.args.m.now c.args.limit) _ _ _ _ c.new-path.ensures.items r.stores r.full r.cuts r.unmarked
-    r.ends r.fresh
+    let e = c.first_place-place.ensures in (
+      first_is (record { m = c.args.m; limit = c.args.limit }) c.args.stores c.requires.root c.first_place-place.result e.stand e.first e.engine
+          e.scratch,
+      e.first,
+    )
+
+pub to_first-requires : goal.to_first-requires
+to_first-requires c = record { at = c.in_ok-tried.ensures.ready.at }
+
+pub stores_of-requires-clause-at : goal.stores_of-requires-clause-at
+stores_of-requires-clause-at c =
+    let ready = c.in_ok-tried.ensures.ready in
+    record { rules = ready.rules; at = c.to_first.ensures.at; scratch = ready.scratch }
+
+pub stores_of-requires-clause-rests : goal.stores_of-requires-clause-rests
+stores_of-requires-clause-rests c = root_rests (record { m = c.args.m; limit = c.args.limit }) c.args.stores c.requires.root
 
 pub returns-clause-found : goal.returns-clause-found
 returns-clause-found c =
@@ -41,5 +60,7 @@ returns-clause-enough c enough =
 
 pub returns-clause-root : goal.returns-clause-root
 returns-clause-root c =
-    back_at_root c.args.m.now c.args.limit c.args.stores c.to_first.new.room.stores c.to_first.new.room.path.items c.requires.root
-    c.to_first.ensures.first c.to_first.ensures.ready
+    let ready = c.in_ok-tried.ensures.ready in
+    let e = c.stores_of.ensures in
+    back_at_root (record { m = c.args.m; limit = c.args.limit }) c.args.stores c.requires.root c.stores_of.result _ _ c.to_first.ensures.at
+    ready.scratch c.to_first.ensures.first e.engine e.cuts e.scratch
