@@ -1,6 +1,6 @@
 //! Whether an assignment is a solution. The clauses that are the soonest asked come first, and none is asked after one that is not kept.
 
-ghost use Rattle.std.specs.Prelude.{◌≡◌, ◌↔◌, IsTrue, IfOk, All, length};
+ghost use Rattle.std.specs.Prelude.{◌≡◌, ◌<◌, ◌↔◌, IsTrue, IfOk, All, length};
 ghost use Rattle.un_model.specs.Congruences.{KeepsCongruences};
 ghost use Rattle.un_model.specs.Cost.{value_of};
 ghost use Rattle.un_model.specs.Schedules.{schedule_of};
