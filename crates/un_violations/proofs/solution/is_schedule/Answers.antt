@@ -5,7 +5,7 @@ use Rattle.un_violations.proofs.solution.is_schedule.Goals as goal
 pub keeps_clauses-requires : goal.keeps_clauses-requires
 keeps_clauses-requires c =
     let m = c.args.m.now in
-    issues_placed m c.args.values.now c.args.t.now (length m.ext.blocks) c.requires refl
+    record { issued = issues_placed m c.args.values.now c.args.t.now (length m.ext.blocks) c.requires refl }
 
 pub returns : goal.returns
 returns c =
