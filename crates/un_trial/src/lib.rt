@@ -4,6 +4,7 @@
 
 pub mod facts;
 pub mod machine;
+pub mod packets;
 pub mod pairs;
 pub mod recipe;
 pub mod sets;

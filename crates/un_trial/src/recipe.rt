@@ -1,5 +1,6 @@
 //! What a trial of a block may vary.
 
+use crate::table::overwrite;
 use std::alloc::{AllocError, Global};
 
 /// Where a value stands that crosses a call.
@@ -69,14 +70,14 @@ impl Recipe {
     pub fn restart(&mut self, order: &[u32], manner: Manner) -> Result<(), AllocError> {
         self.manner = manner;
         self.crossing.clear();
-        self.order.clear();
-        self.order.extend_from_slice(order)
+        overwrite(&mut self.order, order)
     }
 
     /// Makes the recipe another one.
     pub fn copy_from(&mut self, other: &Recipe) -> Result<(), AllocError> {
-        self.restart(other.order.as_slice(), other.manner)?;
-        self.crossing.extend_from_slice(other.crossing.as_slice())
+        self.manner = other.manner;
+        overwrite(&mut self.crossing, other.crossing.as_slice())?;
+        overwrite(&mut self.order, other.order.as_slice())
     }
 
     /// Where one of a block's so many values stands that crosses a call.

@@ -18,6 +18,85 @@ const GENERAL_BITS: u64 = (1 << GENERALS) - 1;
 /// The bits of all registers.
 const REGISTER_BITS: u64 = (1 << FIRST_SLOT) - 1;
 
+/// A set of registers, without slots, in one word.
+#[derive(Clone, Copy, PartialEq)]
+pub struct RegisterMask {
+    /// Bit r stands for register r: the general ones and the predicates.
+    bits: u64,
+}
+
+/// No register.
+pub const NO_REGISTERS: RegisterMask = RegisterMask { bits: 0 };
+/// All registers.
+pub const ALL_REGISTERS: RegisterMask = RegisterMask {
+    bits: REGISTER_BITS,
+};
+/// The general registers.
+pub const GENERAL_REGISTERS: RegisterMask = RegisterMask { bits: GENERAL_BITS };
+/// The predicates.
+pub const PREDICATE_REGISTERS: RegisterMask = RegisterMask {
+    bits: REGISTER_BITS - GENERAL_BITS,
+};
+
+impl RegisterMask {
+    /// Whether a register is in the set; a slot never is.
+    #[inline(always)]
+    pub fn has(self, r: u32) -> bool {
+        r < FIRST_SLOT && (self.bits >> r) & 1 == 1
+    }
+
+    /// With one register more, which is no slot.
+    #[inline(always)]
+    pub fn with(self, r: u32) -> RegisterMask {
+        if r < FIRST_SLOT {
+            RegisterMask {
+                bits: self.bits | 1 << r,
+            }
+        } else {
+            self
+        }
+    }
+
+    /// With one register less.
+    #[inline(always)]
+    pub fn without(self, r: u32) -> RegisterMask {
+        if r < FIRST_SLOT {
+            RegisterMask {
+                bits: self.bits & !(1 << r),
+            }
+        } else {
+            self
+        }
+    }
+
+    /// What is in both sets.
+    #[inline(always)]
+    pub fn and(self, other: RegisterMask) -> RegisterMask {
+        RegisterMask {
+            bits: self.bits & other.bits,
+        }
+    }
+
+    /// What is in this set and not in the other.
+    #[inline(always)]
+    pub fn minus(self, other: RegisterMask) -> RegisterMask {
+        RegisterMask {
+            bits: self.bits & !other.bits,
+        }
+    }
+
+    /// Takes the smallest register out of the set; None where it has none.
+    #[inline(always)]
+    pub fn take_least(&mut self) -> Option<u32> {
+        if self.bits == 0 {
+            return None;
+        }
+        let r = self.bits.trailing_zeros();
+        self.bits &= self.bits.wrapping_sub(1);
+        Some(r)
+    }
+}
+
 /// A set of registers and slots.
 #[derive(Clone, Copy, PartialEq)]
 pub struct RegisterSet {
@@ -72,6 +151,14 @@ impl RegisterSet {
         EMPTY.with(r)
     }
 
+    /// The registers of the set, without its slots.
+    #[inline(always)]
+    pub fn registers(&self) -> RegisterMask {
+        RegisterMask {
+            bits: self.registers,
+        }
+    }
+
     /// The word of a slot.
     fn word(self, slot: u32) -> u64 {
         self.slots.get((slot / WORD) as usize).copied().unwrap_or(0)
@@ -86,21 +173,50 @@ impl RegisterSet {
         (self.word(slot) >> (slot % WORD)) & 1 == 1
     }
 
+    /// Puts one register more into the set.
+    #[inline(always)]
+    pub fn insert(&mut self, r: u32) {
+        if r < FIRST_SLOT {
+            self.registers |= 1 << r;
+        } else {
+            self.insert_slot(slot_of(r));
+        }
+    }
+
+    fn insert_slot(&mut self, slot: u32) {
+        if let Some(word) = self.slots.get_mut((slot / WORD) as usize) {
+            *word |= 1 << (slot % WORD);
+        }
+    }
+
+    /// Takes a register out of the set.
+    #[inline(always)]
+    pub fn remove(&mut self, r: u32) {
+        if r < FIRST_SLOT {
+            self.registers &= !(1 << r);
+        } else {
+            self.remove_slot(slot_of(r));
+        }
+    }
+
+    fn remove_slot(&mut self, slot: u32) {
+        if let Some(word) = self.slots.get_mut((slot / WORD) as usize) {
+            *word &= !(1 << (slot % WORD));
+        }
+    }
+
     /// With one register more.
     pub fn with(self, r: u32) -> RegisterSet {
         let mut set = self;
-        let slot = slot_of(r);
-        if r < FIRST_SLOT {
-            set.registers |= 1 << r;
-        } else if let Some(word) = set.slots.get_mut((slot / WORD) as usize) {
-            *word |= 1 << (slot % WORD);
-        }
+        set.insert(r);
         set
     }
 
     /// With one register less.
     pub fn without(self, r: u32) -> RegisterSet {
-        self.minus(RegisterSet::one(r))
+        let mut set = self;
+        set.remove(r);
+        set
     }
 
     /// What is in both sets.
@@ -195,6 +311,7 @@ pub enum Space {
 }
 
 /// The space of a register, predicate register or slot.
+#[inline(always)]
 pub fn space_at(r: u32) -> Space {
     if r < GENERALS {
         Space::General

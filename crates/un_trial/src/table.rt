@@ -30,12 +30,29 @@ impl<T> Table<T> {
     }
 
     /// The item at a place, lent.
+    #[inline(always)]
     pub fn row(&self, i: u32) -> &T {
         match self.items.get(i as usize) {
             Some(item) => item,
             None => &self.outside,
         }
     }
+
+    /// The item at a place, lent to be changed; None outside.
+    #[inline(always)]
+    pub fn row_mut(&mut self, i: u32) -> Option<&mut T> {
+        self.items.get_mut(i as usize)
+    }
+}
+
+/// Makes a list one of these items: where there are as many before, by one copy of them all.
+pub fn overwrite<T: Copy>(list: &mut Vec<T>, items: &[T]) -> Result<(), AllocError> {
+    if list.len() == items.len() {
+        list.copy_from_slice(items);
+        return Ok(());
+    }
+    list.clear();
+    list.extend_from_slice(items)
 }
 
 impl<T: Copy> Table<T> {
@@ -47,8 +64,19 @@ impl<T: Copy> Table<T> {
 
     /// Makes the table one of these items.
     pub fn copy_from(&mut self, items: &[T]) -> Result<(), AllocError> {
-        self.items.clear();
-        self.items.extend_from_slice(items)
+        overwrite(&mut self.items, items)
+    }
+
+    /// Makes the table one of so many places, all as places outside, by a copy of blank ones: a list that grows as it is asked for more.
+    pub fn wipe(&mut self, length: u32, blank: &mut Vec<T>) -> Result<(), AllocError> {
+        let count = length as usize;
+        if blank.len() < count {
+            blank.resize(count, self.outside)?;
+        }
+        match blank.get(..count) {
+            Some(items) => overwrite(&mut self.items, items),
+            None => Ok(()),
+        }
     }
 
     /// Exchanges the items with a list.
@@ -57,11 +85,13 @@ impl<T: Copy> Table<T> {
     }
 
     /// The item at a place.
+    #[inline(always)]
     pub fn at(&self, i: u32) -> T {
         *self.row(i)
     }
 
     /// Another item at a place.
+    #[inline(always)]
     pub fn put(&mut self, i: u32, item: T) {
         if let Some(place) = self.items.get_mut(i as usize) {
             *place = item;
@@ -71,6 +101,7 @@ impl<T: Copy> Table<T> {
 
 impl Table<u32> {
     /// At least this number at a place.
+    #[inline(always)]
     pub fn raise(&mut self, i: u32, item: u32) {
         self.put(i, self.at(i).max(item));
     }

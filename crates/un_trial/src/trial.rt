@@ -10,13 +10,13 @@ mod ranges;
 mod spills;
 
 use crate::facts::{BlockFacts, Operand, Operation, Temporary};
-use crate::machine::{Machine, NO_NEEDS, Needs, RESOURCES, ROOM};
+use crate::machine::Machine;
+use crate::packets::{NO_SHARE, ONE_PLACE, Share};
 use crate::pairs::Pairs;
 use crate::recipe::{Crossing, Manner, PLAIN, Recipe};
-use crate::sets::{ALL, EMPTY, REGISTERS, RegisterSet};
+use crate::sets::{ALL, NO_REGISTERS, REGISTERS, RegisterMask, RegisterSet};
 use crate::table::{NONE, Table};
 use std::alloc::{AllocError, Global};
-use un_isa::packet_counts::Resource;
 
 /// What a trial is made of, besides its recipe and the places of the keys.
 #[derive(Clone, Copy)]
@@ -68,23 +68,63 @@ const NOWHERE: Stay = Stay {
     last_read: 0,
 };
 
-/// Where the places for instructions stand among the needs.
-const PLACES: usize = Resource::Instructions as usize;
+/// A value: who carries it, and who reads it.
+#[derive(Clone, Copy)]
+struct Carried {
+    /// The registers in which temporaries stand that carry it.
+    registers: RegisterMask,
+    /// The slot in which one stands; NONE where none does. Never do two: what stands in a slot is not spilled again.
+    slot: u32,
+    /// How many of them every later reader may choose.
+    roots: u32,
+    /// The first place behind the present one that reads it; NONE where there is none.
+    use_behind: u32,
+    /// The last place up to the present one that reads it; NONE where there is none.
+    read_last: u32,
+    /// The last place of all that reads it, but for the block's end; NONE where there is none.
+    last_use: u32,
+}
 
-/// What an instruction needs that needs nothing but its place.
-fn one_place() -> Needs {
-    let mut needs = NO_NEEDS;
-    needs[PLACES] = 1;
-    needs
+const UNCARRIED: Carried = Carried {
+    registers: NO_REGISTERS,
+    slot: NONE,
+    roots: 0,
+    use_behind: NONE,
+    read_last: NONE,
+    last_use: NONE,
+};
+
+/// Blank places of a trial's tables.
+#[derive(Drop)]
+struct Blanks {
+    none: Vec<u32>,
+    zero: Vec<u32>,
+    carried: Vec<Carried>,
+    packets: Vec<Share>,
+    stays: Vec<Stay>,
+    placed: Vec<bool>,
+}
+
+impl Blanks {
+    fn new(alloc: Global) -> Blanks {
+        Blanks {
+            none: Vec::new(alloc),
+            zero: Vec::new(alloc),
+            carried: Vec::new(alloc),
+            packets: Vec::new(alloc),
+            stays: Vec::new(alloc),
+            placed: Vec::new(alloc),
+        }
+    }
 }
 
 /// How far a trial has come.
 #[derive(Clone, Copy)]
 struct Marks {
     /// The registers from which nothing may be moved now.
-    locked: RegisterSet,
-    /// The registers and slots in which values end.
-    ends_in: RegisterSet,
+    locked: RegisterMask,
+    /// The registers in which values end.
+    ends_in: RegisterMask,
     /// The registers and slots without a temporary.
     vacant: RegisterSet,
     /// The place in the order. The terminator reads at the order's length, the block's end one behind it.
@@ -104,8 +144,8 @@ struct Marks {
 }
 
 const START: Marks = Marks {
-    locked: EMPTY,
-    ends_in: EMPTY,
+    locked: NO_REGISTERS,
+    ends_in: NO_REGISTERS,
     vacant: ALL,
     position: 0,
     next_call: 0,
@@ -139,26 +179,24 @@ pub struct Trial<'a> {
     /// The places of all keys at the block's start and at its end.
     start: Table<u32>,
     finish: Table<u32>,
-    /// The source operations in the order in which they are placed, the place of each operation, the places of calls.
+    /// The source operations in the order in which they are placed, and the places of calls.
     order: Table<u32>,
-    position_of: Table<u32>,
     calls: Vec<u32>,
-    /// For each value the first place behind the present one that reads it; NONE where there is none.
-    use_behind: Table<u32>,
+    /// The values, by number.
+    carried: Table<Carried>,
     /// For each operand of a place still to come the next place that reads its value, the nearest operand last.
     later_uses: Vec<u32>,
     /// The block's variables from its first on.
     values: Table<u32>,
     /// What each packet has given away.
-    counts: Table<Needs>,
+    packets: Table<Share>,
     stays: Table<Stay>,
     /// Whether a copy was made.
     placed: Table<bool>,
     /// The temporary in each register and slot, and the cycle from which another may start there.
     occupant: Table<u32>,
     free_from: Table<u32>,
-    /// The registers and slots in which temporaries stand that carry a value.
-    stands_in: Table<RegisterSet>,
+    blanks: Blanks,
     /// The temporaries that the present operation reads, by operand.
     got: Pairs,
     marks: Marks,
@@ -179,17 +217,16 @@ impl<'a> Trial<'a> {
             start: no_numbers(alloc, NONE),
             finish: no_numbers(alloc, NONE),
             order: no_numbers(alloc, NONE),
-            position_of: no_numbers(alloc, NONE),
             calls: Vec::new(alloc),
-            use_behind: no_numbers(alloc, NONE),
+            carried: Table::of(Vec::new(alloc), UNCARRIED),
             later_uses: Vec::new(alloc),
             values: no_numbers(alloc, 0),
-            counts: Table::of(Vec::new(alloc), NO_NEEDS),
+            packets: Table::of(Vec::new(alloc), NO_SHARE),
             stays: Table::of(Vec::new(alloc), NOWHERE),
             placed: Table::of(Vec::new(alloc), false),
             occupant: no_numbers(alloc, NONE),
             free_from: no_numbers(alloc, 0),
-            stands_in: Table::of(Vec::new(alloc), EMPTY),
+            blanks: Blanks::new(alloc),
             got: Pairs::new(),
             marks: START,
         }
@@ -211,7 +248,7 @@ impl<'a> Trial<'a> {
         self.order.copy_from(recipe.order.as_slice())?;
         self.crossing.copy_from(recipe.crossing.as_slice())?;
         self.clear()?;
-        self.note_order()?;
+        self.note_calls()?;
         self.note_uses()?;
         Ok(self.sweep())
     }
@@ -219,30 +256,27 @@ impl<'a> Trial<'a> {
     /// Clears the tables for the task's block.
     fn clear(&mut self) -> Result<(), AllocError> {
         let block = self.task.block;
+        let blanks = &mut self.blanks;
         self.marks = START;
-        self.use_behind.refill(block.temporaries.len(), NONE)?;
-        self.values.refill(block.variables, 0)?;
-        self.counts.refill(block.horizon, NO_NEEDS)?;
-        self.stays.refill(block.temporaries.len(), NOWHERE)?;
-        self.placed.refill(block.operations.len(), false)?;
-        self.occupant.refill(REGISTERS, NONE)?;
-        self.free_from.refill(REGISTERS, 0)?;
-        self.stands_in.refill(block.temporaries.len(), EMPTY)?;
-        self.position_of.refill(block.operations.len(), NONE)
+        self.carried
+            .wipe(block.temporaries.len(), &mut blanks.carried)?;
+        self.values.wipe(block.variables, &mut blanks.zero)?;
+        self.packets.wipe(block.horizon, &mut blanks.packets)?;
+        self.stays.wipe(block.temporaries.len(), &mut blanks.stays)?;
+        self.placed
+            .wipe(block.operations.len(), &mut blanks.placed)?;
+        self.occupant.wipe(REGISTERS, &mut blanks.none)?;
+        self.free_from.wipe(REGISTERS, &mut blanks.zero)
     }
 
-    /// Notes the place of each operation, and the calls.
-    fn note_order(&mut self) -> Result<(), AllocError> {
+    /// Notes the calls.
+    fn note_calls(&mut self) -> Result<(), AllocError> {
         self.calls.clear();
         for place in 0..self.order.len() {
-            let o = self.order.at(place);
-            self.position_of.put(o, place);
-            if self.operation(o).is_call {
+            if self.operation(self.order.at(place)).is_call {
                 self.calls.push(place)?;
             }
         }
-        self.position_of
-            .put(self.task.block.terminator, self.order.len());
         Ok(())
     }
 
@@ -253,7 +287,9 @@ impl<'a> Trial<'a> {
         for x in &self.operation(self.task.block.output).operands {
             let r = self.place_at_end(x);
             self.marks.ends_in = self.marks.ends_in.with(r);
-            self.use_behind.put(x.value, length.saturating_add(1));
+            if let Some(carried) = self.carried.row_mut(x.value) {
+                carried.use_behind = length.saturating_add(1);
+            }
         }
         for i in 0..length.saturating_add(1) {
             self.note_uses_at(length.saturating_sub(i))?;
@@ -265,8 +301,15 @@ impl<'a> Trial<'a> {
     fn note_uses_at(&mut self, place: u32) -> Result<(), AllocError> {
         let operands = self.operation(self.operation_at(place)).operands.as_slice();
         for x in operands.iter().rev() {
-            self.later_uses.push(self.use_behind.at(x.value))?;
-            self.use_behind.put(x.value, place);
+            let mut next = NONE;
+            if let Some(carried) = self.carried.row_mut(x.value) {
+                next = carried.use_behind;
+                carried.use_behind = place;
+                if carried.last_use == NONE {
+                    carried.last_use = place;
+                }
+            }
+            self.later_uses.push(next)?;
         }
         Ok(())
     }
@@ -281,11 +324,13 @@ impl<'a> Trial<'a> {
         self.values.exchange(values);
     }
 
+    #[inline(always)]
     fn operation(&self, o: u32) -> &'a Operation {
         self.task.block.operations.row(o)
     }
 
     /// The operation at a place of the order, or the terminator behind its last place.
+    #[inline(always)]
     fn operation_at(&self, place: u32) -> u32 {
         if place == self.length() {
             self.task.block.terminator
@@ -294,24 +339,29 @@ impl<'a> Trial<'a> {
         }
     }
 
+    #[inline(always)]
     fn temporary(&self, t: u32) -> &'a Temporary {
         self.task.block.temporaries.row(t)
     }
 
+    #[inline(always)]
     fn value_of(&self, t: u32) -> u32 {
         self.temporary(t).value
     }
 
+    #[inline(always)]
     fn length(&self) -> u32 {
         self.order.len()
     }
 
+    #[inline(always)]
     fn set(&mut self, variable: u32, x: u32) {
         let first = self.task.block.first_variable;
         self.values.put(variable.saturating_sub(first), x);
     }
 
     /// The value of a variable, 0 where the block has none.
+    #[inline(always)]
     fn value(&self, variable: u32) -> u32 {
         let first = self.task.block.first_variable;
         self.values.at(variable.saturating_sub(first))
@@ -323,34 +373,22 @@ impl<'a> Trial<'a> {
         Some(())
     }
 
-    fn fits(&self, cycle: u32, needs: Needs) -> bool {
-        let used = self.counts.at(cycle);
-        let mut fits = true;
-        for k in 0..RESOURCES {
-            fits = fits && used[k].saturating_add(needs[k]) <= ROOM[k];
-        }
-        fits
-    }
-
     /// The first cycle from `earliest` on with room; the horizon where there is none.
-    fn first_fit(&self, earliest: u32, needs: Needs) -> u32 {
+    fn first_fit(&self, earliest: u32, needs: Share) -> u32 {
         let horizon = self.task.block.horizon;
         for c in earliest.max(self.marks.open_from)..horizon {
-            if self.fits(c, needs) {
+            if self.packets.at(c).has_room(needs) {
                 return c;
             }
         }
         horizon
     }
 
-    fn issue(&mut self, o: u32, cycle: u32, needs: Needs) {
-        let mut used = self.counts.at(cycle);
-        for k in 0..RESOURCES {
-            used[k] = used[k].saturating_add(needs[k]);
-        }
-        self.counts.put(cycle, used);
-        if cycle == self.marks.open_from && used[PLACES] >= ROOM[PLACES] {
-            self.marks.open_from = self.first_fit(cycle.saturating_add(1), one_place());
+    fn issue(&mut self, o: u32, cycle: u32, needs: Share) {
+        let used = self.packets.at(cycle).and(needs);
+        self.packets.put(cycle, used);
+        if cycle == self.marks.open_from && !used.has_room(ONE_PLACE) {
+            self.marks.open_from = self.first_fit(cycle.saturating_add(1), ONE_PLACE);
         }
         self.marks.last_cycle = self.marks.last_cycle.max(cycle);
         let end = cycle.saturating_add(self.task.block.tails.at(o));
@@ -360,7 +398,7 @@ impl<'a> Trial<'a> {
 
     /// The least cycle that the precedences to an operation allow.
     fn ready(&self, o: u32) -> u32 {
-        let mut ready = 1;
+        let mut ready = 1u32;
         for gap in &self.operation(o).before {
             ready = ready.max(self.value(gap.issue).saturating_add(gap.cycles));
         }

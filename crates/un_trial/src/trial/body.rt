@@ -2,15 +2,17 @@
 
 use super::{Trial, place_of};
 use crate::facts::{Operand, Operation};
+use crate::packets::Share;
 use crate::pairs::Pairs;
-use crate::sets::{EMPTY, REGISTERS};
+use crate::sets::NO_REGISTERS;
 use crate::table::NONE;
+use un_isa::reg::FIRST_SLOT;
 
 impl<'a> Trial<'a> {
     /// Locks the registers in which alternatives of an operand stand.
     fn lock_alternatives(&mut self, x: &Operand) {
-        let mut left = self.stands_in.at(x.value);
-        for _ in 0..REGISTERS {
+        let mut left = self.carried.row(x.value).registers;
+        for _ in 0..FIRST_SLOT {
             let Some(r) = left.take_least() else {
                 break;
             };
@@ -38,7 +40,7 @@ impl<'a> Trial<'a> {
     /// Gets what an operation's operands read, each in a register of its own, where not each has one.
     fn bring_all(&mut self, op: &Operation) -> Option<()> {
         self.got.clear();
-        self.marks.locked = EMPTY;
+        self.marks.locked = NO_REGISTERS;
         for x in &op.operands {
             self.lock_alternatives(x);
         }
@@ -63,7 +65,7 @@ impl<'a> Trial<'a> {
     pub(super) fn ready_with(&self, o: u32, got: &Pairs) -> u32 {
         let mut ready = self.ready(o);
         for i in 0..got.len() {
-            ready = ready.max(self.stays.at(got.at(i).item).available);
+            ready = ready.max(self.stays.row(got.at(i).item).available);
         }
         ready
     }
@@ -78,7 +80,7 @@ impl<'a> Trial<'a> {
             if other == t {
                 continue;
             }
-            if other != NONE && self.stays.at(other).defined < cycle {
+            if other != NONE && self.stays.row(other).defined < cycle {
                 return None;
             }
             self.free_from.raise(r, cycle);
@@ -91,7 +93,7 @@ impl<'a> Trial<'a> {
         for x in &op.operands {
             self.release_if_dead(x.value);
         }
-        self.marks.locked = EMPTY;
+        self.marks.locked = NO_REGISTERS;
         for i in 0..self.got.len() {
             let t = self.got.at(i).item;
             let r = self.register_of(t);
@@ -129,17 +131,18 @@ impl<'a> Trial<'a> {
         let op = self.operation(o);
         self.acquire_all(op)?;
         let earliest = self.ready_with(o, &self.got);
-        let cycle = self.first_fit(earliest, op.needs);
+        let needs = Share::of(op.needs);
+        let cycle = self.first_fit(earliest, needs);
         self.release_read(op, cycle);
         if op.result == NONE {
-            self.issue(o, cycle, op.needs);
+            self.issue(o, cycle, needs);
             return self.read_all(cycle);
         }
         let hint = self.wanted_place(op.result);
         let is_predicate = self.temporary(op.result).is_predicate;
         let register = self.take(is_predicate, op.result, earliest, hint)?;
-        let cycle = self.first_fit(earliest.max(self.free_from.at(register)), op.needs);
-        self.issue(o, cycle, op.needs);
+        let cycle = self.first_fit(cycle.max(self.free_from.at(register)), needs);
+        self.issue(o, cycle, needs);
         self.read_all(cycle)?;
         self.occupy(op.result, register, cycle, op.latency);
         self.release_if_dead(op.result);

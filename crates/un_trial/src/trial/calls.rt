@@ -2,9 +2,10 @@
 
 use super::Trial;
 use crate::facts::Operand;
+use crate::packets::Share;
 use crate::pairs::Pairs;
 use crate::recipe::Crossing;
-use crate::sets::{ALL, EMPTY, GENERAL, PREDICATES};
+use crate::sets::{ALL_REGISTERS, NO_REGISTERS};
 use crate::table::NONE;
 use un_isa::reg::{FIRST_SLOT, LINK};
 
@@ -12,15 +13,15 @@ impl<'a> Trial<'a> {
     /// The values that a call would destroy, by next use.
     fn endangered(&self) -> Option<Pairs> {
         let mut list = Pairs::new();
-        let spared = ALL.minus(self.task.machine.clobbered);
-        let mut left = GENERAL.or(PREDICATES).minus(self.marks.vacant);
+        let spared = ALL_REGISTERS.minus(self.task.machine.clobbered.registers());
+        let mut left = ALL_REGISTERS.minus(self.marks.vacant.registers());
         for _ in 0..FIRST_SLOT {
             let Some(r) = left.take_least() else {
                 break;
             };
             let v = self.value_of(self.occupant.at(r));
-            let next = self.use_behind.at(v);
-            if next != NONE && !self.has_root(v, spared, NONE) {
+            let next = self.use_behind(v);
+            if next != NONE && !self.has_root(v, spared) {
                 list.insert(next, v)?;
             }
         }
@@ -31,7 +32,7 @@ impl<'a> Trial<'a> {
     /// so does what the manner says.
     fn save(&mut self, v: u32) -> Option<u32> {
         let x = self.temporary(v);
-        let is_read_at_end = x.saved == LINK || self.use_behind.at(v) > self.length();
+        let is_read_at_end = x.saved == LINK || self.use_behind(v) > self.length();
         let to_slot = is_read_at_end && self.ends_in_slot(v)
             || self.crossing.at(v) == Crossing::Slot;
         let (copy, from) = if self.is_resident(v) {
@@ -96,7 +97,7 @@ impl<'a> Trial<'a> {
 
     pub(super) fn place_call(&mut self, o: u32) -> Option<()> {
         let operands = self.operation(o).operands.as_slice();
-        self.marks.locked = EMPTY;
+        self.marks.locked = NO_REGISTERS;
         let late = self.save_early(operands)?;
         let targets = self.homes(operands)?;
         let got = self.move_all(o, &targets)?;
@@ -109,7 +110,7 @@ impl<'a> Trial<'a> {
     /// Lets go what a call overwrites. Answers the cycle from which it may issue.
     fn clear_for_call(&mut self, earliest: u32) -> u32 {
         let mut from = earliest.max(self.marks.frame_from);
-        let mut left = self.task.machine.clobbered;
+        let mut left = self.task.machine.clobbered.registers();
         for _ in 0..FIRST_SLOT {
             let Some(r) = left.take_least() else {
                 break;
@@ -123,7 +124,7 @@ impl<'a> Trial<'a> {
 
     /// Nothing starts before this cycle in a register that a call clobbers.
     fn close_clobbered(&mut self, from: u32) {
-        let mut left = self.task.machine.clobbered;
+        let mut left = self.task.machine.clobbered.registers();
         for _ in 0..FIRST_SLOT {
             let Some(r) = left.take_least() else {
                 break;
@@ -135,8 +136,9 @@ impl<'a> Trial<'a> {
     fn issue_call(&mut self, o: u32, got: &Pairs) {
         let op = self.operation(o);
         let earliest = self.clear_for_call(self.ready_with(o, got));
-        let cycle = self.first_fit(earliest, op.needs);
-        self.issue(o, cycle, op.needs);
+        let needs = Share::of(op.needs);
+        let cycle = self.first_fit(earliest, needs);
+        self.issue(o, cycle, needs);
         self.marks.last_call = self.marks.last_call.max(cycle);
         for i in 0..got.len() {
             self.read_at(got.at(i).item, cycle);
@@ -155,7 +157,7 @@ impl<'a> Trial<'a> {
     fn save_result(&mut self, o: u32) -> Option<()> {
         let v = self.operation(o).result;
         if self.manner.save_at_once && v != NONE && self.crosses(v) {
-            self.marks.locked = EMPTY;
+            self.marks.locked = NO_REGISTERS;
             self.save(v)?;
             self.release(v);
         }

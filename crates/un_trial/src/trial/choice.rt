@@ -1,7 +1,7 @@
 //! The choice of registers.
 
 use super::Trial;
-use crate::sets::{GENERAL, PREDICATES, RegisterSet};
+use crate::sets::{GENERAL_REGISTERS, PREDICATE_REGISTERS, RegisterMask};
 use crate::table::NONE;
 use un_isa::reg::{FIRST_SLOT, GENERALS};
 
@@ -16,14 +16,16 @@ const ENDING: u64 = 5;
 
 impl<'a> Trial<'a> {
     /// What speaks against a register: the cycle from which a value can stand there, and a taste.
+    #[inline(always)]
     fn score(&self, r: u32, earliest: u32, taste: u64) -> u64 {
         let start = u64::from(earliest.max(self.free_from.at(r)));
         start.saturating_mul(LATER).saturating_add(taste)
     }
 
     /// The free register that is free first; the hint is preferred, places of others at the end are spared.
-    pub(super) fn best_free(&self, set: RegisterSet, earliest: u32, hint: u32) -> u32 {
-        let mut left = set.and(self.marks.vacant).minus(self.marks.locked);
+    pub(super) fn best_free(&self, set: RegisterMask, earliest: u32, hint: u32) -> u32 {
+        let vacant = self.marks.vacant.registers();
+        let mut left = set.and(vacant).minus(self.marks.locked);
         let mut best = NONE;
         let mut least = u64::MAX;
         if left.has(hint) {
@@ -70,12 +72,14 @@ impl<'a> Trial<'a> {
     /// A kept register for a value that crosses a call: a free one, else that of a saved value which goes to a slot anyway, or
     /// which may be spilled.
     pub(super) fn take_kept(&mut self, earliest: u32, hint: u32) -> u32 {
-        let set = self.task.machine.kept.and(self.task.machine.assignable);
+        let machine = self.task.machine;
+        let set = machine.kept.registers().and(machine.assignable.registers());
         let free = self.best_free(set, earliest, hint);
         if free != NONE {
             return free;
         }
-        let mut left = set.minus(self.marks.vacant).minus(self.marks.locked);
+        let vacant = self.marks.vacant.registers();
+        let mut left = set.minus(vacant).minus(self.marks.locked);
         let mut best = NONE;
         let mut least = 2;
         for _ in 0..FIRST_SLOT {
@@ -98,8 +102,15 @@ impl<'a> Trial<'a> {
         }
         let t = self.occupant.at(r);
         let v = self.value_of(t);
-        let is_last = self.use_behind.at(v) > self.length();
+        let is_last = self.use_behind(v) > self.length();
         t == v && is_last && self.ends_in_slot(v) && self.copy_is_left(self.temporary(v).copy)
+    }
+
+    /// The general registers that may be assigned.
+    #[inline(always)]
+    pub(super) fn generals(&self) -> RegisterMask {
+        let assignable = self.task.machine.assignable.registers();
+        assignable.and(GENERAL_REGISTERS)
     }
 
     pub(super) fn take_general(&mut self, earliest: u32, hint: u32, crosses: bool) -> Option<u32> {
@@ -107,7 +118,7 @@ impl<'a> Trial<'a> {
             let ending = self.occupant.at(hint);
             return self.evict_general(ending);
         }
-        let set = self.task.machine.assignable.and(GENERAL);
+        let set = self.generals();
         let kept = if crosses {
             self.take_kept(earliest, hint)
         } else {
@@ -124,11 +135,11 @@ impl<'a> Trial<'a> {
     }
 
     pub(super) fn take_predicate(&mut self, earliest: u32, hint: u32) -> Option<u32> {
-        let free = self.best_free(PREDICATES, earliest, hint);
+        let free = self.best_free(PREDICATE_REGISTERS, earliest, hint);
         if free != NONE {
             return Some(free);
         }
-        self.evict_predicate(self.victim(PREDICATES))
+        self.evict_predicate(self.victim(PREDICATE_REGISTERS))
     }
 
     /// A predicate's copy d in a general register.

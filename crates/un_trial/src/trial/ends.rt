@@ -2,8 +2,9 @@
 
 use super::Trial;
 use crate::facts::Operand;
+use crate::packets::Share;
 use crate::pairs::Pairs;
-use crate::sets::{EMPTY, REGISTERS, Space};
+use crate::sets::{NO_REGISTERS, REGISTERS, Space};
 use crate::table::NONE;
 use un_isa::reg::{FIRST_SLOT, LINK};
 
@@ -20,11 +21,11 @@ impl<'a> Trial<'a> {
         if self.task.frame && block.enter != NONE {
             let enter = self.operation(block.enter);
             self.set(enter.instruction, 1);
-            self.issue(block.enter, 1, enter.needs);
+            self.issue(block.enter, 1, Share::of(enter.needs));
             self.marks.frame_from = 2;
         }
         for t in &block.input {
-            if self.use_behind.at(*t) == NONE {
+            if self.use_behind(*t) == NONE {
                 self.release(*t);
             }
         }
@@ -92,9 +93,10 @@ impl<'a> Trial<'a> {
             .last_touch
             .max(self.marks.last_call.saturating_add(1))
             .max(self.marks.frame_from);
-        let cycle = self.first_fit(earliest, op.needs);
+        let needs = Share::of(op.needs);
+        let cycle = self.first_fit(earliest, needs);
         self.set(op.instruction, 1);
-        self.issue(leave, cycle, op.needs);
+        self.issue(leave, cycle, needs);
     }
 
     /// From which cycle on the terminator may read what it tests; 0 where it tests nothing.
@@ -110,7 +112,7 @@ impl<'a> Trial<'a> {
         };
         let user = self.operation(self.task.block.terminator).op;
         let gap = self.task.machine.gap(given, user);
-        self.stays.at(tested).defined.saturating_add(gap)
+        self.stays.row(tested).defined.saturating_add(gap)
     }
 
     /// Issues the terminator in the last packet, where there is one. Answers the block's end.
@@ -119,7 +121,7 @@ impl<'a> Trial<'a> {
         if terminator == NONE {
             return end;
         }
-        let needs = self.operation(terminator).needs;
+        let needs = Share::of(self.operation(terminator).needs);
         let ready = self.ready(terminator).max(self.tested_from(tested));
         let cycle = self.first_fit(ready.max(end.saturating_sub(1)), needs);
         self.issue(terminator, cycle, needs);
@@ -130,7 +132,7 @@ impl<'a> Trial<'a> {
         let block = self.task.block;
         self.go_to(self.length());
         let tested = self.terminator_operand()?;
-        self.marks.locked = EMPTY;
+        self.marks.locked = NO_REGISTERS;
         self.lock(tested);
         let targets = self.end_slots()?;
         let got = self.move_all(block.output, &targets)?;

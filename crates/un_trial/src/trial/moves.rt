@@ -3,9 +3,10 @@
 
 use super::{Trial, place_of};
 use crate::facts::{Operand, copy_instruction};
-use crate::machine::{NO_NEEDS, Needs, RESOURCES};
+use crate::machine::{NO_NEEDS, RESOURCES};
+use crate::packets::Share;
 use crate::pairs::{LAST, Pair, Pairs};
-use crate::sets::{GENERAL, PREDICATES, RegisterSet, Space, space_at};
+use crate::sets::{GENERAL_REGISTERS, PREDICATE_REGISTERS, Space, space_at};
 use crate::table::NONE;
 use un_ir::extended::MOVE;
 use un_isa::packet_counts::PACKET;
@@ -19,7 +20,7 @@ impl<'a> Trial<'a> {
         } else {
             0
         };
-        u64::from(self.stays.at(t).available) | late
+        u64::from(self.stays.row(t).available) | late
     }
 
     /// What an operand's copy reads: the register temporary that is available first, else a slot.
@@ -67,11 +68,11 @@ impl<'a> Trial<'a> {
     /// first, the first of them.
     pub(super) fn standing(&self, x: &Operand) -> Option<Pair> {
         let wanted = if self.temporary(x.value).is_predicate {
-            PREDICATES
+            PREDICATE_REGISTERS
         } else {
-            GENERAL
+            GENERAL_REGISTERS
         };
-        let mut left = self.stands_in.at(x.value).and(wanted);
+        let mut left = self.carried.row(x.value).registers.and(wanted);
         let mut best = None;
         let mut least = LAST;
         for _ in 0..FIRST_SLOT {
@@ -83,7 +84,7 @@ impl<'a> Trial<'a> {
                 continue;
             };
             let rank = Pair {
-                place: self.stays.at(t).available,
+                place: self.stays.row(t).available,
                 item: place,
             };
             if rank.is_below(least) {
@@ -116,7 +117,7 @@ impl<'a> Trial<'a> {
         let is_predicate = self.temporary(x.value).is_predicate;
         let source = self.source(x);
         self.lock(source);
-        let earliest = self.stays.at(source).available;
+        let earliest = self.stays.row(source).available;
         let r = self.take(is_predicate, x.value, earliest, hint)?;
         self.bring(x, r)
     }
@@ -149,7 +150,7 @@ impl<'a> Trial<'a> {
         }
         let v = self.value_of(t);
         let operands = self.operation(reader).operands.as_slice();
-        let is_read_later = reader != self.task.block.output && self.use_behind.at(v) != NONE;
+        let is_read_later = reader != self.task.block.output && self.use_behind(v) != NONE;
         let is_used = is_read_later || self.is_wanted(operands, v, register, wanted);
         if self.is_elsewhere(t) || !is_used {
             self.release(t);
@@ -159,7 +160,7 @@ impl<'a> Trial<'a> {
 
     /// One of the values in the way goes to a free register by its copy d.
     fn break_ring(&mut self, wanted: &Pairs) -> Option<()> {
-        let free = self.best_free(self.task.machine.assignable.and(GENERAL), 0, NONE);
+        let free = self.best_free(self.generals(), 0, NONE);
         for i in 0..wanted.len() {
             let register = wanted.at(i).item;
             let t = self.occupant.at(register);
@@ -209,14 +210,14 @@ impl<'a> Trial<'a> {
     }
 
     /// What so many moves need of one packet.
-    fn moves(&self, count: u32) -> Needs {
+    fn moves(&self, count: u32) -> Share {
         let one = self.task.machine.copy(MOVE).needs;
         let factor = u8::try_from(count).unwrap_or(u8::MAX);
         let mut all = NO_NEEDS;
         for k in 0..RESOURCES {
             all[k] = one[k].saturating_mul(factor);
         }
-        all
+        Share::of(all)
     }
 
     /// Moves that wait for each other in a ring, as in an exchange of two registers: all issue in one cycle.

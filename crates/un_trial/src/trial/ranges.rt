@@ -3,21 +3,24 @@
 use super::{Stay, Trial};
 use crate::facts::Operand;
 use crate::recipe::Crossing;
-use crate::sets::{ALL, REGISTERS, RegisterSet, SLOTS, Space, space_at};
+use crate::sets::{RegisterMask, Space, space_at};
 use crate::table::NONE;
 use un_isa::reg::FIRST_SLOT;
 
 impl<'a> Trial<'a> {
+    #[inline(always)]
     pub(super) fn register_of(&self, t: u32) -> u32 {
-        self.stays.at(t).register
+        self.stays.row(t).register
     }
 
+    #[inline(always)]
     pub(super) fn space_of(&self, t: u32) -> Space {
         space_at(self.register_of(t))
     }
 
+    #[inline(always)]
     pub(super) fn is_resident(&self, t: u32) -> bool {
-        self.stays.at(t).active
+        self.stays.row(t).active
     }
 
     pub(super) fn place_at_end(&self, x: &Operand) -> u32 {
@@ -54,22 +57,30 @@ impl<'a> Trial<'a> {
         self.marks.position = place;
         for x in &self.operation(self.operation_at(place)).operands {
             let next = self.later_uses.pop().unwrap_or(NONE);
-            self.use_behind.put(x.value, next);
+            if let Some(carried) = self.carried.row_mut(x.value) {
+                carried.use_behind = next;
+                carried.read_last = place;
+            }
         }
         if place >= self.marks.next_call {
             self.marks.next_call = self.first_call(place.saturating_add(1));
         }
     }
 
+    /// The first place behind the present one that reads a value; NONE where there is none.
+    #[inline(always)]
+    pub(super) fn use_behind(&self, v: u32) -> u32 {
+        self.carried.row(v).use_behind
+    }
+
     /// The first place from the present one on that reads a value; NONE where there is none.
     pub(super) fn next_use(&self, v: u32) -> u32 {
-        let place = self.marks.position;
-        for x in &self.operation(self.operation_at(place)).operands {
-            if x.value == v {
-                return place;
-            }
+        let carried = self.carried.row(v);
+        if carried.read_last == self.marks.position {
+            carried.read_last
+        } else {
+            carried.use_behind
         }
-        self.use_behind.at(v)
     }
 
     /// Whether a value is needed in a register behind a call that is still to come.
@@ -78,9 +89,9 @@ impl<'a> Trial<'a> {
         if call == NONE {
             return false;
         }
-        let x = self.temporary(v);
-        let is_read = x.readers.iter().any(|o| self.position_of.at(*o) > call);
-        is_read || x.at_end != NONE && !self.ends_in_slot(v)
+        let last = self.carried.row(v).last_use;
+        let is_read = last != NONE && last > call;
+        is_read || self.temporary(v).at_end != NONE && !self.ends_in_slot(v)
     }
 
     /// Whether a value is to stand in a kept register before the call that it crosses.
@@ -88,28 +99,60 @@ impl<'a> Trial<'a> {
         self.crosses(v) && self.crossing.at(v) == Crossing::Kept
     }
 
-    /// Whether a temporary that every later reader of a value may choose stands in one of these registers, another than `t`.
-    pub(super) fn has_root(&self, v: u32, among: RegisterSet, t: u32) -> bool {
-        let mut left = self.stands_in.at(v).and(among);
-        for _ in 0..REGISTERS {
+    /// Whether a temporary that every later reader of a value may choose stands in a slot or in one of these registers.
+    pub(super) fn has_root(&self, v: u32, among: RegisterMask) -> bool {
+        let carried = self.carried.row(v);
+        let mut left = carried.registers.and(among);
+        for _ in 0..FIRST_SLOT {
             let Some(r) = left.take_least() else {
                 break;
             };
-            let c = self.occupant.at(r);
-            if c != t && self.temporary(c).is_root {
+            if self.temporary(self.occupant.at(r)).is_root {
                 return true;
             }
         }
-        false
+        self.temporary(self.occupant.at(carried.slot)).is_root
     }
 
     /// Whether another copy that every later reader may choose stands somewhere.
     pub(super) fn is_elsewhere(&self, t: u32) -> bool {
-        self.has_root(self.value_of(t), ALL, t)
+        let x = self.temporary(t);
+        let own = if x.is_root && self.is_resident(t) {
+            1
+        } else {
+            0
+        };
+        self.carried.row(x.value).roots > own
     }
 
     pub(super) fn slot_copy(&self, v: u32) -> u32 {
-        self.occupant.at(self.stands_in.at(v).and(SLOTS).least())
+        self.occupant.at(self.carried.row(v).slot)
+    }
+
+    /// Notes that a temporary of a value stands in a register or slot.
+    fn note_standing(&mut self, v: u32, register: u32, is_root: bool) {
+        if let Some(carried) = self.carried.row_mut(v) {
+            carried.registers = carried.registers.with(register);
+            if register >= FIRST_SLOT {
+                carried.slot = register;
+            }
+            if is_root {
+                carried.roots = carried.roots.saturating_add(1);
+            }
+        }
+    }
+
+    /// Notes that a temporary of a value left its register or slot.
+    fn note_left(&mut self, v: u32, register: u32, is_root: bool) {
+        if let Some(carried) = self.carried.row_mut(v) {
+            carried.registers = carried.registers.without(register);
+            if register >= FIRST_SLOT {
+                carried.slot = NONE;
+            }
+            if is_root {
+                carried.roots = carried.roots.saturating_sub(1);
+            }
+        }
     }
 
     pub(super) fn occupy(&mut self, t: u32, register: u32, cycle: u32, latency: u32) {
@@ -122,30 +165,34 @@ impl<'a> Trial<'a> {
         };
         self.stays.put(t, stay);
         self.occupant.put(register, t);
-        self.marks.vacant = self.marks.vacant.without(register);
-        let v = self.value_of(t);
-        self.stands_in.put(v, self.stands_in.at(v).with(register));
-        self.set(self.temporary(t).register, register);
+        self.marks.vacant.remove(register);
+        let x = self.temporary(t);
+        self.note_standing(x.value, register, x.is_root);
+        self.set(x.register, register);
     }
 
     pub(super) fn read_at(&mut self, t: u32, cycle: u32) {
-        let mut stay = self.stays.at(t);
-        stay.last_read = stay.last_read.max(cycle);
-        self.stays.put(t, stay);
+        if let Some(stay) = self.stays.row_mut(t) {
+            stay.last_read = stay.last_read.max(cycle);
+        }
     }
 
     pub(super) fn release(&mut self, t: u32) {
-        let mut stay = self.stays.at(t);
+        let stay = self.stays.at(t);
         if !stay.active {
             return;
         }
-        stay.active = false;
-        self.stays.put(t, stay);
+        self.stays.put(
+            t,
+            Stay {
+                active: false,
+                ..stay
+            },
+        );
         self.occupant.put(stay.register, NONE);
-        self.marks.vacant = self.marks.vacant.with(stay.register);
-        let v = self.value_of(t);
-        self.stands_in
-            .put(v, self.stands_in.at(v).without(stay.register));
+        self.marks.vacant.insert(stay.register);
+        let x = self.temporary(t);
+        self.note_left(x.value, stay.register, x.is_root);
         self.free_from.raise(
             stay.register,
             stay.last_read.max(stay.defined.saturating_add(1)),
@@ -153,17 +200,20 @@ impl<'a> Trial<'a> {
     }
 
     pub(super) fn release_if_dead(&mut self, v: u32) {
-        if self.use_behind.at(v) != NONE {
+        let carried = self.carried.at(v);
+        if carried.use_behind != NONE {
             return;
         }
-        let mut left = self.stands_in.at(v);
-        for _ in 0..REGISTERS {
+        let mut left = carried.registers;
+        for _ in 0..FIRST_SLOT {
             let Some(r) = left.take_least() else {
                 break;
             };
             let t = self.occupant.at(r);
             self.release(t);
         }
+        let t = self.occupant.at(carried.slot);
+        self.release(t);
     }
 
     pub(super) fn lock(&mut self, t: u32) {

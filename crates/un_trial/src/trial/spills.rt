@@ -2,7 +2,8 @@
 
 use super::Trial;
 use crate::facts::copy_instruction;
-use crate::sets::{REGISTERS, RegisterSet, Space, space_at};
+use crate::packets::Share;
+use crate::sets::{REGISTERS, RegisterMask, Space, space_at};
 use crate::table::NONE;
 use un_ir::extended::{RELOAD, SPILL};
 use un_isa::reg::{FIRST_SLOT, LINK};
@@ -24,13 +25,14 @@ impl<'a> Trial<'a> {
         let from = if touches { self.marks.frame_from } else { 1 };
         let ready = self
             .stays
-            .at(source)
+            .row(source)
             .available
             .max(self.free_from.at(register))
             .max(from);
         let made = self.task.machine.copy(instruction);
-        let cycle = self.first_fit(ready, made.needs);
-        self.issue(o, cycle, made.needs);
+        let needs = Share::of(made.needs);
+        let cycle = self.first_fit(ready, needs);
+        self.issue(o, cycle, needs);
         if touches {
             self.marks.last_touch = self.marks.last_touch.max(cycle);
         }
@@ -96,11 +98,19 @@ impl<'a> Trial<'a> {
         Some(slot)
     }
 
-    /// How gladly a temporary leaves its register, by its next use; 0 where it cannot.
-    fn eviction_score(&self, t: u32) -> u64 {
-        let v = self.value_of(t);
+    /// What the score of a temporary comes to at most whose value is read next at a place.
+    #[inline(always)]
+    fn most_score(&self, next: u32) -> u64 {
+        if next == NONE {
+            return u64::MAX;
+        }
+        let distance = u64::from(next.saturating_sub(self.marks.position));
+        distance.saturating_mul(2).saturating_add(1)
+    }
+
+    /// How gladly a temporary of a value leaves its register, by its next use; 0 where it cannot.
+    fn eviction_score(&self, t: u32, v: u32, next: u32) -> u64 {
         let x = self.temporary(v);
-        let next = self.next_use(v);
         if !self.is_resident(t) {
             return 0;
         }
@@ -138,8 +148,10 @@ impl<'a> Trial<'a> {
         self.copy_is_left(copy) && (self.task.frame || self.space_of(t) != Space::General)
     }
 
-    pub(super) fn victim(&self, set: RegisterSet) -> u32 {
-        let mut left = set.minus(self.marks.vacant).minus(self.marks.locked);
+    /// The temporary in one of these registers that leaves most gladly, the first of them; NONE where none can.
+    pub(super) fn victim(&self, set: RegisterMask) -> u32 {
+        let vacant = self.marks.vacant.registers();
+        let mut left = set.minus(vacant).minus(self.marks.locked);
         let mut most = 0;
         let mut victim = NONE;
         for _ in 0..FIRST_SLOT {
@@ -147,7 +159,12 @@ impl<'a> Trial<'a> {
                 break;
             };
             let t = self.occupant.at(r);
-            let score = self.eviction_score(t);
+            let v = self.value_of(t);
+            let next = self.next_use(v);
+            if self.most_score(next) <= most {
+                continue;
+            }
+            let score = self.eviction_score(t, v, next);
             if score > most {
                 most = score;
                 victim = t;
