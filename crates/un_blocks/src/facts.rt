@@ -85,6 +85,16 @@ impl Block {
         has(self.facts.input.as_slice(), t)
     }
 
+    /// Whether its jump may issue before the latency of what it tests is over.
+    fn has_fresh_jump(&self) -> bool {
+        for gap in &self.operation(self.facts.terminator).before {
+            if gap.cycles < self.operation(gap.from).latency {
+                return true;
+            }
+        }
+        false
+    }
+
     /// Whether the block calls.
     pub fn has_call(&self) -> bool {
         for o in &self.facts.body {
@@ -106,6 +116,16 @@ impl Facts {
     /// The register of a saved value, by its place among them.
     pub fn saved_register(&self, i: u32) -> u32 {
         self.machine.saved.get(i as usize).copied().unwrap_or(NONE)
+    }
+
+    /// Whether a block has a jump that may issue before the latency of what it tests is over.
+    pub fn has_fresh_jump(&self) -> bool {
+        for block in &self.blocks {
+            if block.has_fresh_jump() {
+                return true;
+            }
+        }
+        false
     }
 
     /// Whether a key has a place in a group that the model leaves open.

@@ -5,7 +5,7 @@ use un_base::ids::{NameId, OpId, TempId, VarId};
 use un_ir::extended::{ExtBlock, ExtKind, ExtOp, NodeCopy, Operand};
 use un_ir::function::Term;
 use un_isa::op::Op;
-use un_model::instructions::{instruction, latency};
+use un_model::instructions::{gap, instruction, latency};
 use un_model::model::{Arc, BlockVars, Model, OpVars, TempVars};
 use un_trial::facts::{self, Gap, Operation};
 use un_trial::machine::{Machine, NO_NEEDS, needs_by};
@@ -210,6 +210,27 @@ fn is_issued(s: &Scope<'_>, o: OpId) -> bool {
     }
 }
 
+/// The instruction of an operation of the block, by its number in the function; None where it has none.
+fn instruction_of(s: &Scope<'_>, o: OpId) -> Option<Op> {
+    match s.op(s.local_op(o)) {
+        Some(op) => instruction(&op.kind, 1),
+        None => None,
+    }
+}
+
+/// How many cycles a precedence asks for: those of the model, and as many as the machine has where that lets a jump wait longer for what it
+/// tests than the model's table does.
+fn cycles(s: &Scope<'_>, arc: &Arc) -> u32 {
+    let definer = instruction_of(s, arc.from);
+    let user = instruction_of(s, arc.to);
+    let wait = s.machine.gap(definer, user);
+    if wait > gap(&s.m.ext.table, definer, user) {
+        arc.gap.max(wait)
+    } else {
+        arc.gap
+    }
+}
+
 /// The precedences to an operation, from others that every solution issues.
 fn gaps(alloc: Global, s: &Scope<'_>, o: OpId) -> Result<Vec<Gap>, AllocError> {
     let mut list = Vec::new(alloc);
@@ -221,7 +242,7 @@ fn gaps(alloc: Global, s: &Scope<'_>, o: OpId) -> Result<Vec<Gap>, AllocError> {
             list.push(Gap {
                 from: s.local_op(arc.from),
                 issue: s.cycle(s.local_op(arc.from)),
-                cycles: arc.gap,
+                cycles: cycles(s, arc),
             })?;
         }
     }

@@ -3,6 +3,7 @@
 use crate::facts::{Block, Facts, at, has};
 use crate::gather::{Scope, number_of};
 use crate::grid::Grid;
+use crate::packets::end_by_packets;
 use crate::temporaries::block_facts;
 use std::alloc::{AllocError, Global};
 use un_base::memory_error::NoMemory;
@@ -153,11 +154,12 @@ fn blocks(
         if let Some(scope) = scope_of(m, machine, b, next) {
             let facts = block_facts(alloc, &scope, next.variable)?;
             let bound_copies = bound_copies(alloc, &facts)?;
+            let least_end = least_end(&scope, &facts, at(least_ends, b).max(1));
             list.push(Block {
                 facts,
                 bound_copies,
                 frequency: u64::from(scope.block.freq),
-                least_end: least_end(least_ends, b),
+                least_end,
                 group_in: group.at(b),
                 group_out: group.at(count.saturating_add(b)),
             })?;
@@ -175,8 +177,13 @@ struct Next {
     variable: u32,
 }
 
-fn least_end(least_ends: &[u32], b: u32) -> u32 {
-    least_ends.get(b as usize).copied().unwrap_or(1)
+/// A lower bound of a block's end where that of the model is `least`: more where the machine's jumps wait and the model's do not.
+fn least_end(s: &Scope<'_>, block: &BlockFacts, least: u32) -> u32 {
+    if s.machine.table.fresh == s.m.ext.table.fresh {
+        least
+    } else {
+        end_by_packets(block).max(least)
+    }
 }
 
 fn scope_of<'a>(m: &'a Model, machine: &'a Machine, b: u32, next: Next) -> Option<Scope<'a>> {
@@ -287,6 +294,17 @@ fn note_groups(m: &Model, blocks: &[Block], live: &mut Grid<bool>, fixed: &mut G
 /// `NoMemory` where there is no memory for them.
 pub fn facts(alloc: Global, m: &Model, least_ends: &[u32]) -> Result<Facts, NoMemory> {
     let machine = Machine::of(alloc, m)?;
+    let facts = facts_on(alloc, m, machine, least_ends)?;
+    Ok(facts)
+}
+
+/// The facts of a function if each jump waited for the latency of what it tests: its solutions then are solutions where jumps need not wait.
+///
+/// # Errors
+/// `NoMemory` where there is no memory for them.
+pub fn waiting_facts(alloc: Global, m: &Model, least_ends: &[u32]) -> Result<Facts, NoMemory> {
+    let mut machine = Machine::of(alloc, m)?;
+    machine.table.fresh = false;
     let facts = facts_on(alloc, m, machine, least_ends)?;
     Ok(facts)
 }

@@ -6,4 +6,5 @@ pub mod facts;
 mod gather;
 pub mod grid;
 pub mod groups;
+mod packets;
 mod temporaries;

@@ -5,22 +5,23 @@ ghost use Rattle.un_model.specs.Solutions.{IsSolution};
 ghost use Rattle.un_model.specs.Variables.{IsModel};
 
 use crate::assemble::assembled;
+use crate::plan::Plan;
 use crate::search::{Search, cycles_of, least_cost};
 use crate::start::best_start;
 use std::alloc::{AllocError, Global};
 use un_base::memory_error::NoMemory;
 use un_blocks::facts::Facts;
-use un_blocks::groups::facts;
+use un_blocks::groups::{facts, waiting_facts};
 use un_isa::reg::GENERALS;
 use un_lists::items::Items;
 use un_model::model::{Model, Solution};
 use un_trial::sets::EMPTY;
-use un_violations::violations::violations;
+use un_violations::solution::is_solution;
 
 /// The values as a solution, where they are one: where no clause is broken.
 ///
 /// # Errors
-/// `NoMemory` where there is no memory for the clauses' tables.
+/// `NoMemory` where there is no memory for the schedule.
 pub fn judged(alloc: Global, m: &Model, values: Vec<u32>) -> Result<Option<Solution>, NoMemory>
     requires model { IsModel m.now }
     ensures { IfOk result (λ found. IfSome found (λ s. IsSolution m.now s)) }
@@ -28,8 +29,7 @@ pub fn judged(alloc: Global, m: &Model, values: Vec<u32>) -> Result<Option<Solut
     let solution = Solution {
         values: Items::from_vec(values),
     };
-    let broken = violations(alloc, m, &solution)?;
-    if broken.is_empty() {
+    if is_solution(alloc, m, &solution)? {
         Ok(Some(solution))
     } else {
         Ok(None)
@@ -48,8 +48,17 @@ struct Found {
     cycles: u64,
 }
 
-/// The values that a search with so many trials finds.
-fn searched(alloc: Global, facts: &Facts, budget: u64) -> Result<Option<Found>, AllocError> {
+/// The values of a plan's schedules.
+fn found(alloc: Global, facts: &Facts, plan: &Plan) -> Result<Found, AllocError> {
+    let values = assembled(alloc, facts, plan)?;
+    Ok(Found {
+        values,
+        cycles: cycles_of(facts, plan),
+    })
+}
+
+/// The plan that a search with so many trials finds.
+fn searched(alloc: Global, facts: &Facts, budget: u64) -> Result<Option<Plan>, AllocError> {
     let Some(first) = facts.blocks.as_slice().first() else {
         return Ok(None);
     };
@@ -61,16 +70,63 @@ fn searched(alloc: Global, facts: &Facts, budget: u64) -> Result<Option<Found>, 
     let mut plan = search.climb(alloc, start, quarter)?;
     search.spend(&mut plan)?;
     search.settle(&mut plan)?;
-    let values = assembled(alloc, facts, &plan)?;
-    Ok(Some(Found {
-        values,
-        cycles: cycles_of(facts, &plan),
-    }))
+    Ok(Some(plan))
+}
+
+/// The plan that a search finds which goes on from one of other facts, by its places and recipes, with a quarter of so many trials.
+fn resumed(
+    alloc: Global,
+    facts: &Facts,
+    plan: Plan,
+    budget: u64,
+) -> Result<Option<Plan>, AllocError> {
+    let Some(first) = facts.blocks.as_slice().first() else {
+        return Ok(None);
+    };
+    let mut search = Search::new(alloc, facts, first, budget)?;
+    let start = search.restarted(plan)?;
+    search.left = budget / 4;
+    let mut plan = search.climb(alloc, start, 0)?;
+    search.settle(&mut plan)?;
+    Ok(Some(plan))
+}
+
+impl Found {
+    /// Makes the values those of a plan where that costs less.
+    fn improve(&mut self, alloc: Global, facts: &Facts, plan: &Plan) -> Result<(), AllocError> {
+        if cycles_of(facts, plan) < self.cycles {
+            *self = found(alloc, facts, plan)?;
+        }
+        Ok(())
+    }
+}
+
+/// Makes values the cheapest of those, of what a search finds where jumps wait for what they test, and of what one finds that goes on from
+/// there without. Blocks whose jumps need not wait are late for longer, and take trials from the others: so the values might cost more than
+/// if all jumps had to wait. Nothing is tried where they cost no more than is possible then.
+fn improve_by_waiting(
+    alloc: Global,
+    facts: &Facts,
+    waiting: &Facts,
+    budget: u64,
+    best: &mut Found,
+) -> Result<(), AllocError> {
+    if best.cycles <= least_cost(waiting) {
+        return Ok(());
+    }
+    let Some(plan) = searched(alloc, waiting, budget)? else {
+        return Ok(());
+    };
+    best.improve(alloc, waiting, &plan)?;
+    if let Some(quick) = resumed(alloc, facts, plan, budget)? {
+        best.improve(alloc, facts, &quick)?;
+    }
+    Ok(())
 }
 
 /// Makes values the cheapest of those that searches under fewer and fewer registers find. They go other ways, and what they find is as
 /// good under all registers. Nothing is tried where the values cost the least.
-fn improve(
+fn improve_by_fewer(
     alloc: Global,
     facts: &mut Facts,
     budget: u64,
@@ -82,34 +138,16 @@ fn improve(
         if best.cycles <= least || facts.machine.assignable == EMPTY {
             break;
         }
-        if let Some(found) = searched(alloc, facts, budget)?
-            && found.cycles < best.cycles
-        {
-            *best = found;
+        if let Some(plan) = searched(alloc, facts, budget)? {
+            best.improve(alloc, facts, &plan)?;
         }
     }
     Ok(())
 }
 
-/// The cheapest values that searches find, of which the first has so many trials and the others, where options limit the registers, fewer
-/// registers and trials.
-fn cheapest(
-    alloc: Global,
-    facts: &mut Facts,
-    is_limited: bool,
-    budget: u64,
-) -> Result<Option<Found>, AllocError> {
-    let Some(mut best) = searched(alloc, facts, budget)? else {
-        return Ok(None);
-    };
-    if is_limited {
-        improve(alloc, facts, budget.min(FEWER_TRIALS), &mut best)?;
-    }
-    Ok(Some(best))
-}
-
-/// The values that a search with at most `budget` trials of blocks and an eighth more makes, or one of those that follow under fewer
-/// registers where options limit them; None where no start assignment leads to any. Nothing is promised of them: `first` judges them.
+/// The values that a search with at most `budget` trials of blocks and an eighth more makes, or one of those that follow: where jumps may
+/// issue beside what they test, one as if they waited, and one that goes on from there; where options limit the registers, some under
+/// fewer. None where no start assignment leads to any. Nothing is promised of them: `first` judges them.
 ///
 /// # Errors
 /// `NoMemory` where there is no memory for the plans.
@@ -119,10 +157,20 @@ pub fn candidate(
     least_ends: &[u32],
     budget: u32,
 ) -> Result<Option<Vec<u32>>, NoMemory> {
+    let trials = u64::from(budget);
     let mut facts = facts(alloc, m, least_ends)?;
-    let is_limited = m.options.regs.is_some();
-    let found = cheapest(alloc, &mut facts, is_limited, u64::from(budget))?;
-    Ok(found.map(|best| best.values))
+    let Some(plan) = searched(alloc, &facts, trials)? else {
+        return Ok(None);
+    };
+    let mut best = found(alloc, &facts, &plan)?;
+    if facts.has_fresh_jump() {
+        let waiting = waiting_facts(alloc, m, least_ends)?;
+        improve_by_waiting(alloc, &facts, &waiting, trials, &mut best)?;
+    }
+    if m.options.regs.is_some() {
+        improve_by_fewer(alloc, &mut facts, trials.min(FEWER_TRIALS), &mut best)?;
+    }
+    Ok(Some(best.values))
 }
 
 /// A solution by at most `budget` trials of blocks and an eighth more, and, where options limit the registers and it costs more than the

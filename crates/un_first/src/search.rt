@@ -350,6 +350,18 @@ impl<'a> Search<'a> {
     }
 }
 
+impl<'a> Search<'a> {
+    /// A plan of other facts without its trials; its recipes are those of the first ones.
+    pub fn restarted(&mut self, plan: Plan) -> Result<Plan, AllocError> {
+        let mut new = plan;
+        self.remember(&new)?;
+        for mine in new.blocks.iter_mut() {
+            mine.restart();
+        }
+        Ok(new)
+    }
+}
+
 /// A cost with that of one block more.
 fn with_block(cost: Cost, block: &Block, mine: &BlockPlan) -> Cost {
     let copies = block.frequency.saturating_mul(u64::from(mine.best.copies));
