@@ -51,7 +51,7 @@ fn copy_kind(kind: &ExtKind) -> Option<NodeCopy> {
 }
 
 /// Whether every solution issues an operation, and with an instruction.
-pub fn is_mandatory(kind: &ExtKind) -> bool {
+pub fn is_source_or_end(kind: &ExtKind) -> bool {
     matches!(kind, ExtKind::Body(_) | ExtKind::End(_))
 }
 
@@ -205,7 +205,7 @@ fn operands(
 /// Whether an operation of the block, by its number in the function, issues in every solution.
 fn is_issued(s: &Scope<'_>, o: OpId) -> bool {
     match s.op(s.local_op(o)) {
-        Some(op) => is_mandatory(&op.kind),
+        Some(op) => is_source_or_end(&op.kind),
         None => false,
     }
 }

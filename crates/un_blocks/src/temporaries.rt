@@ -1,6 +1,6 @@
 //! The facts of a block's temporaries, and of the block, read from the model.
 
-use crate::gather::{Scope, is_mandatory, no_operation, operations, tails};
+use crate::gather::{Scope, is_source_or_end, no_operation, operations, tails};
 use std::alloc::{AllocError, Global};
 use un_ir::extended::{ExtKind, ExtOp, NodeCopy};
 use un_ir::function::{Kind, SrcOp};
@@ -146,7 +146,7 @@ fn note_reader(
 fn note_readers(s: &Scope<'_>, list: &mut [Temporary]) -> Result<(), AllocError> {
     let mut o = 0u32;
     for op in s.block.ops.as_slice() {
-        if is_mandatory(&op.kind) {
+        if is_source_or_end(&op.kind) {
             note_reader(s, o, op, list)?;
         }
         o = o.saturating_add(1);
