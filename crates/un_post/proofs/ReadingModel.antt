@@ -69,7 +69,7 @@ use Rattle.un_post.proofs.Counts.{counts_within, counts_some}
 use Rattle.un_post.proofs.Reading.{same_are, apart_are, spared_are, twos_are, leaves_are, frame_are}
 use Rattle.un_post.proofs.Reading.{arc_are, packet_are, length_are, below_are, joined_places}
 use Rattle.un_post.proofs.ReadingPressures.{pressure_are}
-use Rattle.un_post.proofs.RegisterBounds.{run_below}
+use Rattle.un_root.proofs.RegisterBounds.{run_below}
 use Rattle.un_model.proofs.Regions.{over_regions, region_is, ended, last_of, front_of, region_parts}
 
 -- ---- what stands at a block's start stands nowhere else
