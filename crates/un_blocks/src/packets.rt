@@ -7,13 +7,11 @@ use un_trial::table::NONE;
 /// What operations need of the packets together, of each resource.
 type Sums = [u32; RESOURCES];
 
-/// With what an operation needs of its packet.
-fn with_needs(sums: Sums, op: &Operation) -> Sums {
-    let mut all = sums;
+/// Adds what an operation needs of its packet.
+fn add_needs(sums: &mut Sums, op: &Operation) {
     for k in 0..RESOURCES {
-        all[k] = all[k].saturating_add(u32::from(op.needs[k]));
+        sums[k] = sums[k].saturating_add(u32::from(op.needs[k]));
     }
-    all
 }
 
 /// What the operations need together that every solution issues so many cycles before the block's end, or more.
@@ -23,7 +21,7 @@ fn needs_before(block: &BlockFacts, tail: u32) -> Sums {
     for op in block.operations.as_slice() {
         let is_issued = op.cycle != NONE && op.instruction == NONE;
         if is_issued && block.tails.at(o) >= tail {
-            sums = with_needs(sums, op);
+            add_needs(&mut sums, op);
         }
         o = o.saturating_add(1);
     }
