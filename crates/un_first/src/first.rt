@@ -173,8 +173,9 @@ pub fn candidate(
     Ok(Some(best.values))
 }
 
-/// A solution by at most `budget` trials of blocks and an eighth more, and, where options limit the registers and it costs more than the
-/// least, by more of them under fewer registers. It follows from the model, the bounds and the budget alone; None where none was found.
+/// A solution by at most `budget` trials of blocks and an eighth more. Where jumps may issue beside what they test and it costs more than is
+/// possible if they waited, one and a half times as many follow; where options limit the registers and it costs more than the least, more
+/// of them under fewer registers. It follows from the model, the bounds and the budget alone; None where none was found.
 /// `least_ends` has a lower bound of each block's end: a block that has reached it gets no more trials. A wrong one makes the answer
 /// worse, and not wrong.
 ///
