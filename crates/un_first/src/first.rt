@@ -49,7 +49,7 @@ struct Found {
 }
 
 /// The values of a plan's schedules.
-fn found(alloc: Global, facts: &Facts, plan: &Plan) -> Result<Found, AllocError> {
+fn values_of(alloc: Global, facts: &Facts, plan: &Plan) -> Result<Found, AllocError> {
     let values = assembled(alloc, facts, plan)?;
     Ok(Found {
         values,
@@ -95,7 +95,7 @@ impl Found {
     /// Makes the values those of a plan where that costs less.
     fn improve(&mut self, alloc: Global, facts: &Facts, plan: &Plan) -> Result<(), AllocError> {
         if cycles_of(facts, plan) < self.cycles {
-            *self = found(alloc, facts, plan)?;
+            *self = values_of(alloc, facts, plan)?;
         }
         Ok(())
     }
@@ -162,7 +162,7 @@ pub fn candidate(
     let Some(plan) = searched(alloc, &facts, trials)? else {
         return Ok(None);
     };
-    let mut best = found(alloc, &facts, &plan)?;
+    let mut best = values_of(alloc, &facts, &plan)?;
     if facts.has_fresh_jump() {
         let waiting = waiting_facts(alloc, m, least_ends)?;
         improve_by_waiting(alloc, &facts, &waiting, trials, &mut best)?;
