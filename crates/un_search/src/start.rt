@@ -40,7 +40,7 @@ const FURTHER_BLOCKS: u32 = 4;
 const MOST_TRIALS: u32 = 64_000;
 
 /// How many operations may be tried at most, were each trial one of the largest block: the more it has, the longer a trial takes.
-const MOST_OPERATIONS_TRIED: usize = 10_000_000;
+const MOST_OPERATIONS_TRIED: usize = 20_000_000;
 
 /// From so many nodes on better solutions are looked for near the first one.
 const NEAR_NODES: u32 = 100;
@@ -65,7 +65,8 @@ fn most_trials(operations: usize) -> u32 {
     let most = MOST_OPERATIONS_TRIED / operations.max(1);
     u32::try_from(most)
         .unwrap_or(MOST_TRIALS)
-        .clamp(TRIALS, MOST_TRIALS)
+        .min(MOST_TRIALS)
+        .max(TRIALS)
 }
 
 /// How often these blocks may be tried for the first solution, by a search with so many nodes.
