@@ -5,7 +5,7 @@ use Rattle.un_search.proofs.lifts.after_steps.Given as goal
 abbrev pub invariant-loop-step : goal.invariant-loop-step
 invariant-loop-step l = record {
   same : l.engine ≡ l.fn.engine;
-  low : l.first.fails ≤ l.fails;
+  low : l.fn.first.fails ≤ l.fails;
   between : l.fails < l.holds;
   some : 0 < l.step;
 }

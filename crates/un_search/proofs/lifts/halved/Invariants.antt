@@ -5,9 +5,9 @@ use Rattle.un_search.proofs.lifts.halved.Given as goal
 abbrev pub invariant-loop-holds : goal.invariant-loop-holds
 invariant-loop-holds l = record {
   same : l.engine ≡ l.fn.engine;
-  low : l.first.fails ≤ l.fails;
+  low : l.fn.first.fails ≤ l.fails;
   between : l.fails < l.holds;
-  high : l.holds ≤ l.first.holds;
+  high : l.holds ≤ l.fn.first.holds;
 }
 
 abbrev pub decreases-loop-holds : goal.decreases-loop-holds
