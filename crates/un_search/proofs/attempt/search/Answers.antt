@@ -1,15 +1,7 @@
-use Rattle.std.proofs.Common.{sym, subst}
-use Rattle.un_domains.specs.Sets.{NoneEmpty}
 use Rattle.un_search.proofs.AttemptLemmas.{answers, by_root}
 use Rattle.un_search.proofs.EnoughLemmas.{not_cut}
 use Rattle.un_search.proofs.PlaceLemmas.{back_at_root, first_is, root_rests}
 use Rattle.un_search.proofs.attempt.search.Goals as goal
-
-pub first_place-requires-clause-full : goal.first_place-requires-clause-full
-first_place-requires-clause-full c = subst NoneEmpty (sym c.requires.root.cuts) c.requires.root.full
-
-pub first_place-requires-clause-fresh : goal.first_place-requires-clause-fresh
-first_place-requires-clause-fresh c = c.requires.root.unmarked
 
 pub attempt-requires-clause-fresh : goal.attempt-requires-clause-fresh
 attempt-requires-clause-fresh c =

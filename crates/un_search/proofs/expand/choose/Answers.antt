@@ -1,10 +1,10 @@
 use Rattle.un_tree.specs.Boxes.{Splits}
 use Rattle.un_tree.specs.Searched.{HasTwo}
-use Rattle.un_search.proofs.PlaceLemmas.{end_live, of_end, same_engine, some_engine, to_end}
+use Rattle.un_search.proofs.PlaceLemmas.{end_live, of_end, some_engine, to_end}
 use Rattle.un_search.proofs.expand.choose.Goals as goal
 
-pub prove-unreachable-requires : goal.prove-unreachable-requires
-prove-unreachable-requires c =
+pub unreachable-requires : goal.unreachable-requires
+unreachable-requires c =
     let g = c.args.rules.now in
     some_engine g.m.now g.limit c.args.place.now.room c.requires.at.at HasTwo c.requires.choice c.in-None.is
 
@@ -19,17 +19,8 @@ choose_in-requires-clause-two c =
     let g = c.args.rules.now in
     of_end g.m.now g.limit c.args.place.now.room c.requires.at.at HasTwo c.requires.choice c.in-Some.engine c.in-Some.is
 
-pub returns-in_ok-choice-in-Some-clause-at : goal.returns-in_ok-choice-in-Some-clause-at
-returns-in_ok-choice-in-Some-clause-at c =
-    let g = c.args.rules.now in
-    record {
-      rules = c.requires.at.rules;
-      at = same_engine g.m.now g.limit c.args.place.now.room c.in-Some.engine _ c.requires.at.at c.in-Some.is c.in_ok-choice-in-Some.ensures.same;
-      scratch = c.requires.at.scratch;
-    }
-
-pub returns-in_ok-choice-in-Some-clause-splits : goal.returns-in_ok-choice-in-Some-clause-splits
-returns-in_ok-choice-in-Some-clause-splits c =
+pub returns-clause-splits : goal.returns-clause-splits
+returns-clause-splits c =
     let choice = c.in_ok-choice-in-Some.choice in
     let g = c.args.rules.now in
     to_end g.m.now g.limit c.args.place.now.room c.requires.at.at HasTwo c.requires.choice c.in-Some.engine c.in-Some.is
