@@ -51,7 +51,7 @@ fn put_of_input(alloc: Global, out: &mut Vec<u8>, input: &[u8]) -> Result<(), St
 }
 
 /// Whether an input is drawn and explained as expected.
-pub fn is_drawn_as(alloc: Global, input: &[u8], want: &[u8]) -> bool {
+pub(crate) fn is_drawn_as(alloc: Global, input: &[u8], want: &[u8]) -> bool {
     let mut out = Vec::new(alloc);
     match put_of_input(alloc, &mut out, input) {
         Ok(()) => out.as_slice() == want,

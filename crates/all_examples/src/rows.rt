@@ -57,7 +57,7 @@ fn row_of(numbers: &[u8]) -> Row {
 }
 
 /// The row of a line, where it is one of the example of this name.
-pub fn row_for(line: &[u8], name: &[u8]) -> Option<Row> {
+pub(crate) fn row_for(line: &[u8], name: &[u8]) -> Option<Row> {
     let numbers = line.strip_prefix(name)?.strip_prefix(b" ")?;
     Some(row_of(numbers))
 }

@@ -221,7 +221,11 @@ fn wrong_of(alloc: Global, name: &[u8], f: &Function) -> Result<(usize, usize), 
 }
 
 /// How many rows of this name the function of a text and its code do not run as, out of how many; of a text with a fault none run.
-pub fn wrong_runs(alloc: Global, name: &[u8], text: &[u8]) -> Result<(usize, usize), NoMemory> {
+pub(crate) fn wrong_runs(
+    alloc: Global,
+    name: &[u8],
+    text: &[u8],
+) -> Result<(usize, usize), NoMemory> {
     match read_function(alloc, text) {
         Ok(f) => wrong_of(alloc, name, &f),
         Err(_) => Ok((0, 0)),

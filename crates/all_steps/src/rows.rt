@@ -82,8 +82,7 @@ fn model_of(alloc: Global, function: &[u8], line: &[u8]) -> Result<Model, NoMemo
         return Err(NoMemory);
     };
     let options = options_by(number_at(line, 1), number_at(line, 2));
-    let m = model(alloc, &f, &table_of(version_of(line)), &options)?;
-    Ok(m)
+    model(alloc, &f, &table_of(version_of(line)), &options)
 }
 
 /// The rule with this number.

@@ -67,8 +67,7 @@ fn put_beside(
         best,
         least,
     };
-    let sum = put_table(alloc, out, &sheet)?;
-    Ok(sum)
+    put_table(alloc, out, &sheet)
 }
 
 /// Appends the table of a listing whose blocks are matched, and answers what it costs.
@@ -85,7 +84,7 @@ fn put_rows(
 {
     let best = best_in(alloc, f, report)?;
     let least = least_packets(alloc, t, f)?;
-    let sum = put_beside(
+    put_beside(
         alloc,
         out,
         t,
@@ -94,8 +93,7 @@ fn put_rows(
         matched,
         best.as_slice(),
         least.as_slice(),
-    )?;
-    Ok(sum)
+    )
 }
 
 /// Appends the table and how blocks are matched, and answers what the listing costs.
@@ -177,7 +175,7 @@ fn put_last(out: &mut Vec<u8>, sum: &Sum, figures: Option<Figures>) -> Result<()
 ///
 /// # Errors
 /// `NoMemory` where there is no memory for it.
-pub fn put_compared(
+pub(crate) fn put_compared(
     alloc: Global,
     out: &mut Vec<u8>,
     t: &Table,

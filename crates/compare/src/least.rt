@@ -141,6 +141,5 @@ pub fn least_packets(alloc: Global, t: &Table, f: &Function) -> Result<Items<u64
         slots: SLOTS,
     };
     let m = model(alloc, f, t, &options)?;
-    let least = least_of_all(alloc, &m)?;
-    Ok(least)
+    least_of_all(alloc, &m)
 }

@@ -46,7 +46,7 @@ fn bound_in(report: &[u8]) -> Option<u64> {
 }
 
 /// The cost and the bound of a report; None where it has no code.
-pub fn figures_in(report: &[u8]) -> Option<Figures> {
+pub(crate) fn figures_in(report: &[u8]) -> Option<Figures> {
     let cost = number_behind(report, b"cost ")?;
     let bound = bound_in(report);
     Some(Figures { cost, bound })
@@ -85,7 +85,11 @@ fn counts(
 }
 
 /// How many packets the code of a report has in each block of the function; nothing where it has no code.
-pub fn best_in(alloc: Global, f: &Function, report: &[u8]) -> Result<Items<Option<u64>>, NoMemory> {
+pub(crate) fn best_in(
+    alloc: Global,
+    f: &Function,
+    report: &[u8],
+) -> Result<Items<Option<u64>>, NoMemory> {
     let Some(text) = listing_in(report) else {
         return Ok(Items::new(alloc));
     };

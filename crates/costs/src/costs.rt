@@ -65,7 +65,7 @@ fn costs_in(alloc: Global, f: &Function, m: &Model) -> Result<Option<Costs>, NoM
 ///
 /// # Errors
 /// `NoMemory` where there is no memory for the search.
-pub fn costs_of(alloc: Global, text: &[u8]) -> Result<Option<Costs>, NoMemory> {
+pub(crate) fn costs_of(alloc: Global, text: &[u8]) -> Result<Option<Costs>, NoMemory> {
     let Ok(f) = read_function(alloc, text) else {
         return Ok(None);
     };

@@ -101,7 +101,7 @@ fn put_attempt(
 }
 
 /// Appends what attempts come to, each under the cost of the solution before, until one finds none, with their times.
-pub fn put_attempts(
+pub(crate) fn put_attempts(
     rt: &impl CpuClock,
     alloc: Global,
     out: &mut Vec<u8>,

@@ -194,7 +194,7 @@ fn put_chains(
 
 /// Appends the mean times of a mark, a cut, an engine of so many precedences with its run from the root, a decision with the run after
 /// it and the way back, and the same without the way back.
-pub fn put_scale(
+pub(crate) fn put_scale(
     rt: &impl CpuClock,
     alloc: Global,
     out: &mut Vec<u8>,

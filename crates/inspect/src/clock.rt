@@ -20,7 +20,12 @@ pub fn mean(rt: &impl CpuClock, start: Duration, calls: u64) -> u64 {
 }
 
 /// Appends the line of a part's mean time.
-pub fn put_time(alloc: Global, out: &mut Vec<u8>, part: &str, mean: u64) -> Result<(), NoMemory> {
+pub(crate) fn put_time(
+    alloc: Global,
+    out: &mut Vec<u8>,
+    part: &str,
+    mean: u64,
+) -> Result<(), NoMemory> {
     let line = format!(in alloc; "{part:<12} {mean:>12} ns\n")?;
     put_text(out, line.as_bytes())
 }

@@ -81,7 +81,7 @@ fn is_refused(alloc: Global, f: &Function, m: &Model, ends: &[u32]) -> Result<bo
 }
 
 /// Appends how many first solutions a search for a function refuses, which makes at most one.
-pub fn put_refused(
+pub(crate) fn put_refused(
     alloc: Global,
     out: &mut Vec<u8>,
     f: &Function,

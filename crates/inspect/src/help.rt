@@ -91,7 +91,7 @@ fn put_offer(out: &mut Vec<u8>, best: Offer, present: Offer) -> Result<(), NoMem
 }
 
 /// Appends how many registers would make the code cheaper that a text gives for a model with few registers, where some would.
-pub fn put_help(
+pub(crate) fn put_help(
     alloc: Global,
     out: &mut Vec<u8>,
     f: &Function,

@@ -135,7 +135,12 @@ fn put_lines_left(
 
 /// Appends a line for each variable with the values that the rounds leave it at a node of a search, or the line for rounds that
 /// fail.
-pub fn put_rounds(alloc: Global, out: &mut Vec<u8>, m: &Model, node: &Node) -> Result<(), NoMemory>
+pub(crate) fn put_rounds(
+    alloc: Global,
+    out: &mut Vec<u8>,
+    m: &Model,
+    node: &Node,
+) -> Result<(), NoMemory>
     requires model { IsModel m.now }
     requires extended { IsExtended m.now.ext }
     requires fit { IsFit m.now.ext.table }

@@ -83,7 +83,7 @@ fn time_decisions<P: Propagator + Drop>(
 
 /// Appends the time of making an engine, with its run from the root, and the mean time of a decision on each of these variables with
 /// the run after it and the way back. It answers the mean time of such a decision without the way back.
-pub fn put_runs<P: Propagator + Drop>(
+pub(crate) fn put_runs<P: Propagator + Drop>(
     rt: &impl CpuClock,
     alloc: Global,
     out: &mut Vec<u8>,

@@ -23,7 +23,7 @@ use un_violations::violations::violations;
 pub const ALL: u32 = ASSIGNABLE + 1;
 
 /// These options with so many registers.
-pub fn with_registers(options: &Options, registers: u32) -> Options
+pub(crate) fn with_registers(options: &Options, registers: u32) -> Options
     requires options { AreOptions options.now }
     requires some { 1 ≤ registers }
     ensures { AreOptions result }
@@ -86,8 +86,7 @@ pub fn answer_of(
 {
     let m = model(alloc, f, t, options)?;
     let start = start(alloc, f, &m, last)?;
-    let answer = solve(alloc, &m, start, nodes)?;
-    Ok(answer)
+    solve(alloc, &m, start, nodes)
 }
 
 /// Appends what an answer says, and answers its solution.
@@ -126,7 +125,7 @@ fn put_registers(out: &mut Vec<u8>, registers: u32) -> Result<(), NoMemory> {
 /// Appends a line for each number of registers: what the best code that a search with at most so many nodes finds costs, and what no code
 /// costs less than; or that there is none, or that none was found. Each search begins with the solution of the one before, so that costs
 /// never rise.
-pub fn put_sweep(
+pub(crate) fn put_sweep(
     alloc: Global,
     out: &mut Vec<u8>,
     f: &Function,

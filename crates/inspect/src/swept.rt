@@ -48,7 +48,7 @@ fn with_option(words: &[Word], place: u32, given: Swept) -> Result<Swept, u32>
 ///
 /// # Errors
 /// The least place at which no accepted list of words begins so.
-pub fn sweep_options(words: &[Word]) -> Result<Swept, u32>
+pub(crate) fn sweep_options(words: &[Word]) -> Result<Swept, u32>
     ensures { IfOk result (λ g. IfSome g.slots (λ n. n ≤ SLOTS)) }
 {
     let mut given = Swept {

@@ -181,8 +181,7 @@ fn posted(alloc: Global, f: &Function, m: &Model) -> Result<Posted, NoMemory>
     ensures spans { IfOk result (λ p. All (SpansAtMost p.horizon) p.props.items) }
 {
     let _ = f;
-    let posted = post(alloc, m, None)?;
-    Ok(posted)
+    post(alloc, m, None)
 }
 
 /// Appends the times of rounds of what is posted, with decisions on these variables.
@@ -305,7 +304,7 @@ fn put_sizes(alloc: Global, out: &mut Vec<u8>, f: &Function, m: &Model) -> Resul
 
 /// Appends the mean times of the parts, where the words say how often they are called, and else how many variables and
 /// propagators a function has.
-pub fn put_timed(
+pub(crate) fn put_timed(
     rt: &impl CpuClock,
     alloc: Global,
     out: &mut Vec<u8>,

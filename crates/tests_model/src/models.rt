@@ -76,8 +76,7 @@ fn model_of(alloc: Global, function: &[u8], options: &Options) -> Result<Model, 
     let Ok(f) = read_function(alloc, function) else {
         return Err(NoMemory);
     };
-    let m = model(alloc, &f, &hexagon(), options)?;
-    Ok(m)
+    model(alloc, &f, &hexagon(), options)
 }
 
 /// The numbers of a text, between spaces and at the ends of lines.

@@ -180,8 +180,7 @@ fn model_under(alloc: Global, function: &[u8], options: &Options) -> Result<Mode
     let Ok(f) = read_function(alloc, function) else {
         return Err(NoMemory);
     };
-    let m = model(alloc, &f, &hexagon(), options)?;
-    Ok(m)
+    model(alloc, &f, &hexagon(), options)
 }
 
 /// What is posted for a function without a limit.

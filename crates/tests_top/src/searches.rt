@@ -105,8 +105,7 @@ pub(crate) fn model_under(
     let Ok(f) = read_function(alloc, function) else {
         return Err(NoMemory);
     };
-    let m = model(alloc, &f, &hexagon(), options)?;
-    Ok(m)
+    model(alloc, &f, &hexagon(), options)
 }
 
 /// Appends a word and a number.

@@ -1,5 +1,5 @@
 -- The lines of a text. A line feed is the byte 10.
-use Rattle.std.specs.Prelude.{ℕ, Bool, ◌==◌, ◌≢◌, List, [], ◌∷◌, ◌++◌, if◌then◌else◌}
+use Rattle.std.specs.Prelude.{ℕ, Bool, ◌==◌, ◌≡◌, ◌≢◌, List, [], ◌∷◌, ◌++◌, if◌then◌else◌}
 use Rattle.std.specs.List.{All, onto_first, flat_map}
 
 abbrev pub is_line_feed : ℕ → Bool
@@ -28,3 +28,8 @@ with_last_feed (b ∷ c ∷ more) = b ∷ with_last_feed (c ∷ more)
 -- no byte is a line feed
 abbrev pub HasNoFeed : List ℕ → Type 0
 HasNoFeed bs = All (λ b. b ≢ 10) bs
+
+-- what stands before the first byte b, and what stands behind it
+pub record IsCut (text : List ℕ) (b : ℕ) (first rest : List ℕ) : Type 0 where
+  pub whole : text ≡ first ++ b ∷ rest
+  pub none : All (λ y. y ≢ b) first

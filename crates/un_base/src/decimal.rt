@@ -56,6 +56,17 @@ pub fn read_decimal(text: &[u8]) -> Option<u64>
     read_digits(text)
 }
 
+/// The number of 32 bits whose decimal text this is. `None` exactly where it is the text of no such number. It takes no memory.
+pub fn number_of(text: &[u8]) -> Option<u32>
+    ensures some { IfSome result (λ n. text.now ≡ decimal n) }
+    ensures none { IfNone result ((n : ℕ) → n < 2 ^ 32 → text.now ≢ decimal n) }
+{
+    match u32::try_from(read_decimal(text)?) {
+        Ok(n) => Some(n),
+        Err(_) => None,
+    }
+}
+
 /// Appends the decimal text of `n`.
 ///
 /// # Errors

@@ -1,9 +1,9 @@
-//! The lines of a text, lent.
+//! The lines of a text, lent, and a text cut at a byte.
 
-ghost use Rattle.std.specs.Prelude.{◌≡◌, ◌+◌, ◌<◌, ◌≤◌, IfSome, length, drop};
-ghost use Rattle.std.specs.List.{All, position, position_or_len};
+ghost use Rattle.std.specs.Prelude.{◌≡◌, ◌≢◌, ◌+◌, ◌<◌, ◌≤◌, All, IfSome, IfNone, length, drop};
+ghost use Rattle.std.specs.List.{position, position_or_len};
 ghost use Rattle.std.specs.Iterator.{item_count, YieldsFirstBy};
-ghost use Rattle.un_base.specs.Lines.{is_line_feed, lines_of, joined_lines, with_last_feed, HasNoFeed};
+ghost use Rattle.un_base.specs.Lines.{is_line_feed, lines_of, joined_lines, with_last_feed, HasNoFeed, IsCut};
 ghost use Rattle.un_base.specs.LinesLeft.{lines_left};
 
 /// The lines of a text that are left, each a slice of it.
@@ -68,4 +68,17 @@ impl<'a> Iterator for LineIter<'a> {
         self.rest = after(self.rest, end);
         Some(line)
     }
+}
+
+/// What stands before the first byte `b`, and what stands behind it. `None` exactly where `b` is not in the text. It takes no memory.
+pub fn cut(text: &[u8], b: u8) -> Option<(&[u8], &[u8])>
+    ensures some { IfSome result (λ parts. IsCut text.now b parts.0.now parts.1.now) }
+    ensures none { IfNone result (All (λ y. y ≢ b) text.now) }
+{
+    for (i, y) in text.iter().enumerate() {
+        if *y == b {
+            return Some((&text[..i], &text[i + 1..]));
+        }
+    }
+    None
 }

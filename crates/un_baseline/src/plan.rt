@@ -5,7 +5,7 @@ use un_ir::function::Term;
 use un_isa::reg::GENERALS;
 
 /// The predicate that holds each truth value: p0.
-pub const PREDICATE: u32 = GENERALS;
+pub(crate) const PREDICATE: u32 = GENERALS;
 
 /// What the copies of operands before an operation are for: the operands of an operation or of a branch, the address to which
 /// a return goes, the result at a block's end, or nothing.

@@ -403,8 +403,7 @@ fn plan_copy(
 {
     let m = copy_move(e, &block.live_in, s, p, purpose, op, node)?;
     push_copy(values, op, node, &m)?;
-    let after = after_copy(&e.table, p, &m, purpose, node)?;
-    Ok(after)
+    after_copy(&e.table, p, &m, purpose, node)
 }
 
 /// The values of an operation of the source, after the values so far, and the progress behind it.

@@ -51,7 +51,7 @@ fn copy_kind(kind: &ExtKind) -> Option<NodeCopy> {
 }
 
 /// Whether every solution issues an operation, and with an instruction.
-pub fn is_source_or_end(kind: &ExtKind) -> bool {
+pub(crate) fn is_source_or_end(kind: &ExtKind) -> bool {
     matches!(kind, ExtKind::Body(_) | ExtKind::End(_))
 }
 
@@ -73,7 +73,7 @@ impl<'a> Scope<'a> {
     }
 
     /// The number of an operation in the block.
-    pub fn local_op(&self, o: OpId) -> u32 {
+    pub(crate) fn local_op(&self, o: OpId) -> u32 {
         o.0.saturating_sub(self.first_op)
     }
 
@@ -131,12 +131,12 @@ impl<'a> Scope<'a> {
     }
 
     /// The key of the operand at place `j` of those at the block's end.
-    pub fn end_key(&self, j: u32) -> u32 {
+    pub(crate) fn end_key(&self, j: u32) -> u32 {
         self.key_among(self.block.live_out.as_slice(), j)
     }
 
     /// The key of the value at place `j` of those at the block's start.
-    pub fn start_key(&self, j: u32) -> u32 {
+    pub(crate) fn start_key(&self, j: u32) -> u32 {
         self.key_among(self.block.live_in.as_slice(), j)
     }
 
@@ -323,7 +323,7 @@ fn raise_tails(op: &Operation, tail: u32, tails: &mut Table<u32>) {
 }
 
 /// What stands for an operation where there is none.
-pub fn no_operation(alloc: Global) -> Operation {
+pub(crate) fn no_operation(alloc: Global) -> Operation {
     Operation {
         operands: Vec::new(alloc),
         result: NONE,

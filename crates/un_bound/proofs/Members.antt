@@ -29,7 +29,7 @@ use Rattle.un_model.specs.Schedules.{value_by, cycle_by, cycle_of, issue_of, blo
 use Rattle.un_model.specs.Solutions.{IsPlacedAs, IsPlaced, InDomain, IsSolution}
 use Rattle.un_model.specs.Variables.{IsModel, blocks_temps}
 use Rattle.un_model.proofs.ArcsKept.{KeepsArc, arcs_kept}
-use Rattle.un_model.proofs.Lists.{get_below, index_get, length_get}
+use Rattle.un_lists.proofs.Lists.{get_below, index_get, length_get}
 use Rattle.un_bound.specs.declared.relax.RelaxAnswer.{RelaxAnswer}
 use Rattle.un_bound.specs.declared.relax.RelaxAnswer.TheVariants.{Empty, Least}
 use Rattle.un_bound.specs.Arcs.{LeadOn, AllLeadOn}

@@ -35,7 +35,7 @@ use Rattle.un_model.specs.Schedules.{value_by, issue_of, block_issues, issues_of
 use Rattle.un_model.specs.Solutions.{IsPlacedAs, IsPlaced, IsSolution, HasRoom, issues_at, share_of, taken}
 use Rattle.un_isa.specs.PacketCounts.{places_of, share_of as share_by}
 use Rattle.un_model.specs.Variables.{IsModel, block_count, blocks_vars}
-use Rattle.un_model.proofs.Lists.{Each, each_all, each_append}
+use Rattle.un_lists.proofs.Lists.{Each, each_all, each_append}
 use Rattle.un_bound.specs.Plain.{plain_share, needed, packets_for, IsPlainSum, IsPlainBound}
 use Rattle.un_bound.specs.Relaxations.{AreRelaxed}
 use Rattle.un_bound.specs.Choices.{AllKnown}

@@ -23,8 +23,8 @@ use Rattle.un_model.specs.Arcs.{first_number, block_arcs, blocks_arcs}
 use Rattle.un_model.specs.ArcLaws.{arc_known, gap_told}
 use Rattle.un_model.specs.Solutions.{latency_gap}
 use Rattle.un_model.specs.Variables.{IsModel, blocks_temps, var_at, ops_count, block_count}
-use Rattle.un_model.proofs.Lists.{Member, each_all, each_member, member_append_left, member_append_right, member_at, member_map}
-use Rattle.un_model.proofs.Lists.{place_of, slice_get-map}
+use Rattle.un_lists.proofs.Lists.{Member, each_all, each_member, member_append_left, member_append_right, member_at, member_map}
+use Rattle.un_lists.proofs.Lists.{place_of, slice_get-map}
 use Rattle.un_model.proofs.Operations.{contains_member, placed_get}
 use Rattle.un_model.proofs.Placed.{Placed, Region, region_placed, block_placed, blocks_placed, Spot, spot, spots_of, all_spots, temp_vars}
 use Rattle.un_model.proofs.Placed.{temps_are}

@@ -87,7 +87,7 @@ fn length_by(cycles: &mut [u32], first: usize, ops: &[ExtOp], arcs: &[Arc]) -> u
 }
 
 /// The least length of a block, by way of `room`, which has a place for each operation.
-pub fn least_length(room: &mut [u32], first: usize, ops: &[ExtOp], arcs: &[Arc]) -> u64
+pub(crate) fn least_length(room: &mut [u32], first: usize, ops: &[ExtOp], arcs: &[Arc]) -> u64
     requires long { length ops.now ≤ length room.old }
     requires room { length ops.now ≤ ROOM }
     requires arcs { LeadOn first ops.now arcs.now }

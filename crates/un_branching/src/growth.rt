@@ -63,7 +63,7 @@ pub fn side_of(parent: usize, var: VarId, val: u32, side: Side) -> Link
 }
 
 /// The decisions that lead to a node.
-pub fn path_to(
+pub(crate) fn path_to(
     alloc: Global,
     branches: &[Option<Link>],
     link: Option<Link>,

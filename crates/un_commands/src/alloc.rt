@@ -80,7 +80,7 @@ pub(crate) fn read_settings(
 /// # Errors
 /// The first place that is bad.
 #[tactic(auto, using(crate::proofs::Openers::with_flag, crate::proofs::Openers::without_flag, crate::proofs::Openers::alloc_opens))]
-pub fn read_alloc(words: &[Word]) -> Result<Command, u32>
+pub(crate) fn read_alloc(words: &[Word]) -> Result<Command, u32>
     requires { StandsAt words.now 0 (codes "alloc") }
     ensures ok { IfOk result (IsCommand words.now) }
     ensures bad { IfErr result (IsBadWord words.now) }
@@ -98,7 +98,7 @@ pub fn read_alloc(words: &[Word]) -> Result<Command, u32>
 /// # Errors
 /// The first place that is bad.
 #[tactic(auto, using(crate::proofs::Openers::improves, crate::proofs::Openers::improve_opens))]
-pub fn read_improve(words: &[Word]) -> Result<Command, u32>
+pub(crate) fn read_improve(words: &[Word]) -> Result<Command, u32>
     requires { StandsAt words.now 0 (codes "improve") }
     ensures ok { IfOk result (IsCommand words.now) }
     ensures bad { IfErr result (IsBadWord words.now) }

@@ -6,10 +6,10 @@ use un_model::model::Options;
 pub const MOST_NODES: u32 = 200_000;
 
 /// How many nodes the tree of a search may have where no number is given.
-pub const DEFAULT_NODES: u32 = 2_000;
+pub(crate) const DEFAULT_NODES: u32 = 2_000;
 
 /// The largest size of a function that is made.
-pub const MOST_SIZE: u32 = 16;
+pub(crate) const MOST_SIZE: u32 = 16;
 
 /// What a search may use.
 #[derive(Clone, Copy)]

@@ -31,7 +31,7 @@ fn read_rest(words: &[Word], seed: u64, size: u32) -> Result<Command, u32>
 ///
 /// # Errors
 /// The first place that is bad.
-pub fn read_generate(words: &[Word]) -> Result<Command, u32>
+pub(crate) fn read_generate(words: &[Word]) -> Result<Command, u32>
     requires { StandsAt words.now 0 (codes "gen") }
     ensures ok { IfOk result (IsCommand words.now) }
     ensures bad { IfErr result (IsBadWord words.now) }

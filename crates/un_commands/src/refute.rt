@@ -14,7 +14,7 @@ use un_outside::words::Word;
 /// # Errors
 /// The first place that is bad.
 #[tactic(auto, using(crate::proofs::Openers::refute_opens, crate::proofs::Openers::refutes))]
-pub fn read_refute(words: &[Word]) -> Result<Command, u32>
+pub(crate) fn read_refute(words: &[Word]) -> Result<Command, u32>
     requires { StandsAt words.now 0 (codes "refute") }
     ensures ok { IfOk result (IsCommand words.now) }
     ensures bad { IfErr result (IsBadWord words.now) }

@@ -12,7 +12,7 @@ use un_outside::words::Word;
 ///
 /// # Errors
 /// The first place that is bad.
-pub fn read_run(words: &[Word]) -> Result<Command, u32>
+pub(crate) fn read_run(words: &[Word]) -> Result<Command, u32>
     requires { StandsAt words.now 0 (codes "run") }
     ensures ok { IfOk result (IsCommand words.now) }
     ensures bad { IfErr result (IsBadWord words.now) }

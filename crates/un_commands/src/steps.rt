@@ -30,7 +30,7 @@ fn counts_at(words: &[Word], place: u32) -> Result<bool, u32>
 ///
 /// # Errors
 /// The first place that is bad.
-pub fn read_steps(words: &[Word]) -> Result<Command, u32>
+pub(crate) fn read_steps(words: &[Word]) -> Result<Command, u32>
     requires { StandsAt words.now 0 (codes "steps") }
     ensures ok { IfOk result (IsCommand words.now) }
     ensures bad { IfErr result (IsBadWord words.now) }

@@ -28,9 +28,9 @@ use Rattle.un_model.specs.Solutions.{after_load}
 use Rattle.un_model.specs.Solutions.{memory_distance, KeepsMemory, ShareNoCycle, SparesRange, IsSpared, KeepsRegisters}
 use Rattle.un_model.specs.Solutions.{issues_at, share_of, Fits, HasRoom, KeepsPackets, ReadsHome, KeepsHomes, uses_frame}
 use Rattle.un_model.specs.Solutions.{is_frame_access, starts_in_slot, after_enter, before_leave, frame_distance, HasFrame, KeepsFrame}
-use Rattle.un_model.proofs.Lists.{Each, Pairwise, Member, each_member, each_all, each_of, each_map, pairwise_all, pairwise_map}
-use Rattle.un_model.proofs.Lists.{pairwise_more}
-use Rattle.un_model.proofs.Lists.{slice_get-map, member_at}
+use Rattle.un_lists.proofs.Lists.{Each, Pairwise, Member, each_member, each_all, each_of, each_map, pairwise_all, pairwise_map}
+use Rattle.un_lists.proofs.Lists.{pairwise_more}
+use Rattle.un_lists.proofs.Lists.{slice_get-map, member_at}
 use Rattle.un_compact.specs.Squeezes.{squeezed}
 use Rattle.un_compact.proofs.Squeezing.{rises, no_more, before_later, enough}
 

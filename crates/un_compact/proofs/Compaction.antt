@@ -40,8 +40,8 @@ use Rattle.un_model.specs.Variables.{choice_place, register_place}
 use Rattle.un_model.specs.Variables.{var_count, var_at, var_if, ops_vars, ops_count, blocks_vars, blocks_count, chosen_operands}
 use Rattle.un_model.specs.Variables.{cycle_domain, ops_domains}
 use Rattle.un_model.proofs.Gaps.{gap_short}
-use Rattle.un_model.proofs.Lists.{Each, Member, each_member, each_of, each_more, member_map, member_map_of, member_at, slice_get-map}
-use Rattle.un_model.proofs.Lists.{length_get, get_below, index_get, any_of, none_any}
+use Rattle.un_lists.proofs.Lists.{Each, Member, each_member, each_of, each_more, member_map, member_map_of, member_at, slice_get-map}
+use Rattle.un_lists.proofs.Lists.{length_get, get_below, index_get, any_of, none_any}
 use Rattle.un_model.proofs.OpDomains.{get_left, keeps_sits, sits_left, all_sit, InDomains, in_entry, choice_sits, get_places}
 use Rattle.un_model.proofs.Operations.{GoodPlaced, all_good}
 use Rattle.un_model.proofs.Placed.{Placed, vars_of, end_of, issue_at, reads_at, Spot, issues_are, reads_are}

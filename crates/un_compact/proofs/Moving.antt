@@ -27,7 +27,7 @@ use Rattle.un_model.specs.Pairs.{places_from, joined}
 use Rattle.un_model.specs.Schedules.{value_by, instr_of, cycle_by, cycle_of, is_zero, chosen, read_of, op_reads, cycle_for, last_read}
 use Rattle.un_model.specs.Schedules.{range_by, range_of, ranges_of, issues_of, reads_of, schedule_of}
 use Rattle.un_model.specs.Variables.{model_of, var_at, register_place}
-use Rattle.un_model.proofs.Lists.{Each, Member, each_member, each_of, member_at, slice_get-map, length_get, map-append}
+use Rattle.un_lists.proofs.Lists.{Each, Member, each_member, each_of, member_at, slice_get-map, length_get, map-append}
 use Rattle.un_model.proofs.Placed.{Placed, vars_of, end_of, issue_at, reads_at, Spot, spot, spots_of, temp_vars, issues_are, reads_are}
 use Rattle.un_model.proofs.Placed.{temps_are}
 use Rattle.un_model.proofs.PlacedSchedules.{all, spots, issue_here, spot_temp, definer_in, one_spot, joined_member, places_member}

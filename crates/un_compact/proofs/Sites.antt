@@ -23,7 +23,7 @@ use Rattle.un_model.specs.Schedules.{value_by}
 use Rattle.un_model.specs.Variables.{count_if, cycle_place, var_count, ops_vars, ops_count, block_vars, block_count}
 use Rattle.un_model.specs.Variables.{blocks_vars, cycle_domain, choice_domain, result_domain, chosen_operands, carries_truth, instr_domain}
 use Rattle.un_model.specs.Variables.{op_domains, ops_domains, block_domains, blocks_domains, own_horizon}
-use Rattle.un_model.proofs.Lists.{Member, member_append_left, member_append_right}
+use Rattle.un_lists.proofs.Lists.{Member, member_append_left, member_append_right}
 use Rattle.un_model.proofs.Numbering.{length-op_domains, length-ops_domains, length-block_domains}
 use Rattle.un_model.proofs.OpDomains.{get_left, get_right}
 use Rattle.un_model.proofs.Placed.{Placed, placed, block_placed, blocks_placed, vars_of}

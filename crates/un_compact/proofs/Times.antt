@@ -14,7 +14,7 @@ use Rattle.un_model.specs.Pairs.{places_from}
 use Rattle.un_model.specs.Schedules.{value_by}
 use Rattle.un_model.specs.Variables.{has_cycle, count_if, cycle_place, choice_place, var_count, var_at, var_if, ops_vars}
 use Rattle.un_model.specs.Variables.{ops_count, block_vars, block_count, blocks_vars, blocks_count}
-use Rattle.un_model.proofs.Lists.{Each, Member, each_more, each_join, member_map, any_of}
+use Rattle.un_lists.proofs.Lists.{Each, Member, each_more, each_join, member_map, any_of}
 use Rattle.un_model.proofs.Placed.{Placed, placed, block_placed, blocks_placed, vars_of}
 use Rattle.un_violations.specs.Loose.{is_number, is_cycle, is_time_in}
 use Rattle.un_compact.specs.Squeezes.{times_of, is_used, squeezed}

@@ -41,7 +41,11 @@ pub fn ends_of(words: &[u64], shape: &Shape) -> Ends
 }
 
 /// The ends of all variables' sets, by number.
-pub fn all_ends(alloc: Global, words: &[u64], shapes: &[Shape]) -> Result<Vec<u64>, AllocError>
+pub(crate) fn all_ends(
+    alloc: Global,
+    words: &[u64],
+    shapes: &[Shape],
+) -> Result<Vec<u64>, AllocError>
     requires laid { All (IsLaid words.now) shapes.now }
     requires domains { All (λ (h : Shape). IsDomain h.first) shapes.now }
     ensures { IfOk result (λ noted. AreNoted (sets_of shapes.now words.now) noted.items) }

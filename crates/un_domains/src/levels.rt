@@ -34,7 +34,7 @@ pub struct Saves {
 }
 
 /// Nothing saved, and no mark. It takes no memory.
-pub fn no_saves(alloc: Global) -> Saves
+pub(crate) fn no_saves(alloc: Global) -> Saves
     ensures saves { (n : ℕ) → AreSaves n result }
     ensures marked { (ws : List ℕ) → marked_of result ws ≡ [] }
 {
@@ -122,7 +122,7 @@ fn give_back(words: &mut Vec<u64>, saves: &mut Saves, start: usize)
 }
 
 /// Gives back what was saved since the last mark, and takes that mark away. It takes no memory, and costs what was saved.
-pub fn take_back(words: &mut Vec<u64>, saves: &mut Saves)
+pub(crate) fn take_back(words: &mut Vec<u64>, saves: &mut Saves)
     requires saves { AreSaves (length words.old.items) saves.old }
     requires some { 0 < length saves.old.starts.items }
     ensures saves { AreSaves (length words.new.items) saves.new }

@@ -98,7 +98,7 @@ fn count_to(values: &[u32], x: u32) -> usize
 }
 
 /// How many values are at most `x`: those at the places before it.
-pub fn places_to(domain: &Domain, x: u32) -> usize
+pub(crate) fn places_to(domain: &Domain, x: u32) -> usize
     requires { Rises (values_of domain.now) }
     ensures within { result ≤ length (values_of domain.now) }
     ensures agree { (i : ℕ) → i < length (values_of domain.now) → nat_lt i result ≡ nat_le (value_at domain.now i) x }

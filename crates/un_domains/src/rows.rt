@@ -20,7 +20,7 @@ pub fn row(words: &[u64], at: usize, n: usize) -> &[u64]
 }
 
 /// A variable's bounds.
-pub fn bounds_at(words: &[u64], at: usize) -> Bounds
+pub(crate) fn bounds_at(words: &[u64], at: usize) -> Bounds
     requires { at + 2 ≤ length words.now }
     ensures lo { result.lo ≡ slice_index words.now at }
     ensures end { result.end ≡ slice_index words.now (at + 1) }
@@ -66,7 +66,7 @@ fn answer(old: Bounds, new: Bounds) -> Cut
 }
 
 /// Keeps the places before `k`. It takes no memory.
-pub fn keep_before(words: &mut Words, at: usize, n: usize, k: usize) -> Cut
+pub(crate) fn keep_before(words: &mut Words, at: usize, n: usize, k: usize) -> Cut
     requires within { at + 2 + n ≤ length words.old.words }
     requires small { at + 2 < 2 ^ 64 }
     requires tight { IsTight (row_of words.old.words at n) (slice_index words.old.words at) (slice_index words.old.words (at + 1)) }
@@ -80,7 +80,7 @@ pub fn keep_before(words: &mut Words, at: usize, n: usize, k: usize) -> Cut
 }
 
 /// Keeps the places from `k` on. It takes no memory.
-pub fn keep_from(words: &mut Words, at: usize, n: usize, k: usize) -> Cut
+pub(crate) fn keep_from(words: &mut Words, at: usize, n: usize, k: usize) -> Cut
     requires within { at + 2 + n ≤ length words.old.words }
     requires small { at + 2 < 2 ^ 64 }
     requires tight { IsTight (row_of words.old.words at n) (slice_index words.old.words at) (slice_index words.old.words (at + 1)) }
@@ -94,7 +94,7 @@ pub fn keep_from(words: &mut Words, at: usize, n: usize, k: usize) -> Cut
 }
 
 /// Keeps place `k` alone. It takes no memory.
-pub fn keep_only(words: &mut Words, at: usize, n: usize, k: usize) -> Cut
+pub(crate) fn keep_only(words: &mut Words, at: usize, n: usize, k: usize) -> Cut
     requires within { at + 2 + n ≤ length words.old.words }
     requires small { at + 2 < 2 ^ 64 }
     requires tight { IsTight (row_of words.old.words at n) (slice_index words.old.words at) (slice_index words.old.words (at + 1)) }
@@ -122,7 +122,7 @@ fn clear(words: &mut Words, at: usize, n: usize, k: usize)
 }
 
 /// Takes place `k` away. It takes no memory.
-pub fn drop_place(words: &mut Words, at: usize, n: usize, k: usize) -> Cut
+pub(crate) fn drop_place(words: &mut Words, at: usize, n: usize, k: usize) -> Cut
     requires within { at + 2 + n ≤ length words.old.words }
     requires small { at + 2 + n < 2 ^ 64 }
     requires tight { IsTight (row_of words.old.words at n) (slice_index words.old.words at) (slice_index words.old.words (at + 1)) }

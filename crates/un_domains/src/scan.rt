@@ -50,7 +50,7 @@ pub fn next_set(words: &[u64], from: usize, end: usize) -> usize
 }
 
 /// One more than the last bit that is set before `from`, or `lo`. It passes a word at a time.
-pub fn last_set(words: &[u64], lo: usize, from: usize) -> usize
+pub(crate) fn last_set(words: &[u64], lo: usize, from: usize) -> usize
     requires within { from ≤ 64 * length words.now }
     requires order { lo ≤ from }
     ensures low { lo ≤ result }

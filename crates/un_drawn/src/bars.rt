@@ -134,7 +134,7 @@ fn bar_of(
 }
 
 /// The bars of a block.
-pub fn bars(
+pub(crate) fn bars(
     alloc: Global,
     sheet: &Sheet<'_>,
     section: &Section<'_>,
@@ -200,7 +200,7 @@ pub fn columns(
 }
 
 /// The bar that lies in a register or slot in a cycle.
-pub fn bar_at(bars: &[Bar], reg: u32, cycle: u32) -> Option<Bar> {
+pub(crate) fn bar_at(bars: &[Bar], reg: u32, cycle: u32) -> Option<Bar> {
     for bar in bars {
         if bar.reg == reg && bar.from <= cycle && cycle <= bar.last {
             return Some(*bar);

@@ -51,7 +51,7 @@ pub fn cost_of(section: &Section<'_>) -> u64 {
 }
 
 /// What all blocks cost.
-pub fn whole_cost(sections: &[Section<'_>]) -> u64 {
+pub(crate) fn whole_cost(sections: &[Section<'_>]) -> u64 {
     let mut sum: u64 = 0;
     for section in sections {
         sum = sum.saturating_add(cost_of(section));
@@ -60,7 +60,7 @@ pub fn whole_cost(sections: &[Section<'_>]) -> u64 {
 }
 
 /// The blocks of a model as values make them.
-pub fn sections<'a>(
+pub(crate) fn sections<'a>(
     alloc: Global,
     m: &'a Model,
     values: &[u32],

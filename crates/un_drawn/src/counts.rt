@@ -94,7 +94,12 @@ fn issued(alloc: Global, all: &[Reach]) -> Result<Vec<Reach>, AllocError> {
 }
 
 /// The crowd that asks for most packets of a block that has so many; of those that ask for as many the one with the most operations.
-pub fn heaviest(alloc: Global, t: &Table, all: &[Reach], length: u32) -> Result<Crowd, NoMemory> {
+pub(crate) fn heaviest(
+    alloc: Global,
+    t: &Table,
+    all: &[Reach],
+    length: u32,
+) -> Result<Crowd, NoMemory> {
     let issued = issued(alloc, all)?;
     let mut most = crowd_of(t, issued.as_slice(), Resource::Instructions, 1, 1);
     for resource in Resource::ALL.iter() {
@@ -110,7 +115,7 @@ pub fn is_in(t: &Table, crowd: &Crowd, reach: &Reach) -> bool {
 }
 
 /// What a resource is, in words.
-pub fn resource_words(resource: Resource) -> &'static [u8] {
+pub(crate) fn resource_words(resource: Resource) -> &'static [u8] {
     match resource {
         Resource::Instructions => b"instructions",
         Resource::Memory => b"loads and stores",

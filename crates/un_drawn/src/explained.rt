@@ -98,7 +98,7 @@ fn put_bound(out: &mut Vec<u8>, given: &Given<'_>, cost: u64, bound: u64) -> Res
 }
 
 /// Appends the paragraphs of all blocks, and last whether the bound meets the cost.
-pub fn put_explained(
+pub(crate) fn put_explained(
     alloc: Global,
     out: &mut Vec<u8>,
     sheet: &Sheet<'_>,

@@ -5,9 +5,9 @@ use crate::pieces::put_place;
 use un_base::ids::{NameId, TempId};
 use un_base::memory_error::NoMemory;
 use un_ir::extended::{ExtKind, ExtOp};
+use un_ir::print::put_name;
 use un_ir::text::put_text;
 use un_model::model::{Model, TempVars};
-use un_parts::pieces::put_name;
 
 /// What a value is for a reader of the source: one of a name, what the caller left in a register, or a call's result that no name
 /// takes.
@@ -65,12 +65,16 @@ fn carried(sheet: &Sheet<'_>, section: &Section<'_>, temp: TempId) -> Option<Mea
 }
 
 /// What a temporary of a block carries.
-pub fn meaning_of(sheet: &Sheet<'_>, section: &Section<'_>, temp: TempId) -> Meaning {
+pub(crate) fn meaning_of(sheet: &Sheet<'_>, section: &Section<'_>, temp: TempId) -> Meaning {
     carried(sheet, section, temp).unwrap_or(Meaning::Unnamed)
 }
 
 /// Appends what a value is, in few bytes.
-pub fn put_meaning(out: &mut Vec<u8>, sheet: &Sheet<'_>, meaning: Meaning) -> Result<(), NoMemory> {
+pub(crate) fn put_meaning(
+    out: &mut Vec<u8>,
+    sheet: &Sheet<'_>,
+    meaning: Meaning,
+) -> Result<(), NoMemory> {
     match meaning {
         Meaning::Named(name) => put_name(out, sheet.names, name),
         Meaning::Saved(reg) => put_place(out, reg),
@@ -79,7 +83,7 @@ pub fn put_meaning(out: &mut Vec<u8>, sheet: &Sheet<'_>, meaning: Meaning) -> Re
 }
 
 /// Appends what a value is, in words.
-pub fn put_meaning_in_words(
+pub(crate) fn put_meaning_in_words(
     out: &mut Vec<u8>,
     sheet: &Sheet<'_>,
     meaning: Meaning,

@@ -17,7 +17,7 @@ const CYCLE: usize = 5;
 const PACKET: usize = 20;
 
 /// How much lies between two columns.
-pub const GAP: usize = 2;
+pub(crate) const GAP: usize = 2;
 
 /// Some of the columns of a table.
 #[derive(Clone, Copy)]
@@ -89,7 +89,7 @@ fn panel_of(columns: &[Column], from: usize, to: usize, has_packets: bool) -> Pa
 }
 
 /// The columns in panels; the packets stand in the last one.
-pub fn panels<'a>(
+pub(crate) fn panels<'a>(
     alloc: Global,
     sheet: &Sheet<'_>,
     sections: &[Section<'_>],
@@ -117,7 +117,7 @@ fn is_used(column: &Column, bars: &[Bar]) -> bool {
 }
 
 /// Whether a panel shows something of a block that has these bars.
-pub fn is_shown(panel: Panel<'_>, bars: &[Bar]) -> bool {
+pub(crate) fn is_shown(panel: Panel<'_>, bars: &[Bar]) -> bool {
     if panel.has_packets {
         return true;
     }

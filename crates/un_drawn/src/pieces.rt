@@ -22,7 +22,7 @@ pub fn put_numbers(out: &mut Vec<u8>, numbers: &[(&[u8], u64)]) -> Result<(), No
 }
 
 /// Appends blanks, until the text is so many bytes longer than it was at `start`.
-pub fn pad(out: &mut Vec<u8>, start: usize, width: usize) -> Result<(), NoMemory> {
+pub(crate) fn pad(out: &mut Vec<u8>, start: usize, width: usize) -> Result<(), NoMemory> {
     let written = out.len().saturating_sub(start);
     for _ in 0..width.saturating_sub(written) {
         put_text(out, b" ")?;
@@ -42,7 +42,7 @@ pub fn put_place(out: &mut Vec<u8>, reg: u32) -> Result<(), NoMemory> {
 }
 
 /// Appends a register, or a frame slot with its number, as it stands above a column: in three bytes at most.
-pub fn put_column_name(out: &mut Vec<u8>, reg: u32) -> Result<(), NoMemory> {
+pub(crate) fn put_column_name(out: &mut Vec<u8>, reg: u32) -> Result<(), NoMemory> {
     match space_of(reg) {
         Space::M => {
             put_text(out, b"s")?;
@@ -53,7 +53,7 @@ pub fn put_column_name(out: &mut Vec<u8>, reg: u32) -> Result<(), NoMemory> {
 }
 
 /// Appends what share of a whole a part is, in hundredths with one place behind the point, rounded.
-pub fn put_share(out: &mut Vec<u8>, part: u64, whole: u64) -> Result<(), NoMemory> {
+pub(crate) fn put_share(out: &mut Vec<u8>, part: u64, whole: u64) -> Result<(), NoMemory> {
     let whole = whole.max(1);
     let share = part.saturating_mul(1000).saturating_add(whole / 2) / whole;
     put_number(out, share / 10)?;

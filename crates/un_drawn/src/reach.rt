@@ -64,7 +64,7 @@ fn unheld_in(
 }
 
 /// The first cycle of the operation at a place, 0 where there is none.
-pub fn head_at(all: &[Reach], place: u32) -> u32 {
+pub(crate) fn head_at(all: &[Reach], place: u32) -> u32 {
     match all.get(place as usize) {
         Some(reach) => reach.head,
         None => 0,
@@ -72,7 +72,7 @@ pub fn head_at(all: &[Reach], place: u32) -> u32 {
 }
 
 /// How many cycles before the end the operation at a place issues, 0 where there is none.
-pub fn tail_at(all: &[Reach], place: u32) -> u32 {
+pub(crate) fn tail_at(all: &[Reach], place: u32) -> u32 {
     match all.get(place as usize) {
         Some(reach) => reach.tail,
         None => 0,
@@ -130,7 +130,7 @@ fn settle(all: &mut [Reach], waits: &[Wait]) {
 }
 
 /// How early and how late the operations of a block can issue, where so much of the code is given.
-pub fn reaches_of(
+pub(crate) fn reaches_of(
     alloc: Global,
     sheet: &Sheet<'_>,
     section: &Section<'_>,

@@ -40,7 +40,11 @@ fn nth_line(text: &[u8], block: u32, n: u32) -> Option<&[u8]> {
 
 /// The line of the operation at a place of an extended block, in the text of its function as the printer writes it, without the blanks
 /// before it; none where it has no line of its own.
-pub fn source_line<'a>(text: &'a [u8], section: &Section<'_>, place: u32) -> Option<&'a [u8]> {
+pub(crate) fn source_line<'a>(
+    text: &'a [u8],
+    section: &Section<'_>,
+    place: u32,
+) -> Option<&'a [u8]> {
     let line = nth_line(text, section.number, before(section, place))?;
     line.strip_prefix(b"  ")
 }

@@ -111,7 +111,7 @@ fn put_counts(out: &mut Vec<u8>, spent: &Spent) -> Result<(), NoMemory> {
 }
 
 /// Appends what a block spends on spills, reloads, moves and the frame, where it spends something.
-pub fn put_spent(
+pub(crate) fn put_spent(
     out: &mut Vec<u8>,
     sheet: &Sheet<'_>,
     section: &Section<'_>,

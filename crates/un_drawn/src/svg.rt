@@ -389,7 +389,7 @@ fn put_legend(out: &mut Vec<u8>) -> Result<(), NoMemory> {
 }
 
 /// Appends the drawing of all blocks, one below the other.
-pub fn put_drawing(
+pub(crate) fn put_drawing(
     alloc: Global,
     out: &mut Vec<u8>,
     sheet: &Sheet<'_>,

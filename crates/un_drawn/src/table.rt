@@ -151,7 +151,7 @@ fn put_section(
 }
 
 /// Appends the tables of all blocks, each with what is said of it and an empty line behind it, and last what the marks mean.
-pub fn put_tables(
+pub(crate) fn put_tables(
     alloc: Global,
     out: &mut Vec<u8>,
     sheet: &Sheet<'_>,

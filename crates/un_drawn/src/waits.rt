@@ -172,7 +172,7 @@ fn push_frame(
 }
 
 /// The live ranges of a block that occupy their registers and slots.
-pub fn held_in(
+pub(crate) fn held_in(
     alloc: Global,
     sheet: &Sheet<'_>,
     section: &Section<'_>,

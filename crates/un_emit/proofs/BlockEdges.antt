@@ -11,7 +11,7 @@ use Rattle.un_ir.specs.declared.extended.ExtOp.{ExtOp}
 use Rattle.un_ir.specs.Linear.{is_in, is_out, in_temps, out_operands, ending_of, ending_or}
 use Rattle.un_ir.specs.Extended.{Parts, IsMadeOf, AllAre, is_inner, is_end, is_copy}
 use Rattle.un_model.specs.Congruences.{live_in_temps, results_of_start}
-use Rattle.un_model.proofs.Lists.{Each, Member, each_member, each_all, each_join, each_more, member_append_right}
+use Rattle.un_lists.proofs.Lists.{Each, Member, each_member, each_all, each_join, each_more, member_append_right}
 
 -- ---- kinds apart
 

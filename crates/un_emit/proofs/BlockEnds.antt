@@ -31,7 +31,7 @@ use Rattle.un_model.specs.Schedules.{cycle_by, value_by, instr_of, schedule_of}
 use Rattle.un_model.specs.Variables.{model_of, var_at, ops_count}
 use Rattle.un_packet.specs.Step.{PacketState}
 use Rattle.un_simulation.specs.Simulation.{as_held, held_at}
-use Rattle.un_model.proofs.Lists.{Member, each_member, each_of, pairwise_two, place_of, found, none_found, find_none}
+use Rattle.un_lists.proofs.Lists.{Member, each_member, each_of, pairwise_two, place_of, found, none_found, find_none}
 use Rattle.un_emit.proofs.Timed.{Job, Stands, NotBoth}
 use Rattle.un_emit.proofs.Exits.{transfer_of, is_false}
 use Rattle.un_emit.proofs.Cycles.{At, first_read}

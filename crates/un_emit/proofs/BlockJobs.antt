@@ -28,8 +28,8 @@ use Rattle.un_model.specs.Instructions.{instruction_of, frame_instr}
 use Rattle.un_ir.specs.Kinds.{is_delimiter}
 use Rattle.un_model.specs.Schedules.{instr_of, schedule_of, value_by}
 use Rattle.un_model.specs.Variables.{model_of, var_at, var_count, ops_count, block_count, block_vars, blocks_vars}
-use Rattle.un_model.proofs.Lists.{Each, Pairwise, Member, each_member, each_of, pairwise_append_left, pairwise_append_right}
-use Rattle.un_model.proofs.Lists.{member_append_left, member_append_right}
+use Rattle.un_lists.proofs.Lists.{Each, Pairwise, Member, each_member, each_of, pairwise_append_left, pairwise_append_right}
+use Rattle.un_lists.proofs.Lists.{member_append_left, member_append_right}
 use Rattle.un_emit.proofs.Timed.{Job, Deed}
 use Rattle.un_model.proofs.Placed.{Placed, placed, block_placed, blocks_placed, vars_of, issue_at, Region, region_placed}
 use Rattle.un_model.proofs.PlacedSchedules.{all, range_at, joined_member}

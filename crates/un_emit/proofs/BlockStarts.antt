@@ -21,7 +21,7 @@ use Rattle.un_model.specs.Instructions.{latency_by, instruction_of}
 use Rattle.un_model.specs.Schedules.{value_by}
 use Rattle.un_packet.specs.Step.{PacketState}
 use Rattle.un_simulation.specs.Simulation.{as_held, held_at}
-use Rattle.un_model.proofs.Lists.{Each, Member, each_member, each_of, each_all, each_more, member_at, member_map, place_of, length_get}
+use Rattle.un_lists.proofs.Lists.{Each, Member, each_member, each_of, each_all, each_more, member_at, member_map, place_of, length_get}
 use Rattle.un_emit.proofs.Timed.{Job, Stands}
 use Rattle.un_emit.proofs.InTime.{CallsFit}
 use Rattle.un_emit.proofs.Effects.{is_effect, run_later}

@@ -35,8 +35,8 @@ use Rattle.un_model.specs.Solutions.{IsPlaced, IsPlacedAs, Precedes, memory_dist
 use Rattle.un_model.specs.Solutions.{share_of, taken, issues_at, HasFrame, frame_distance, IsLast}
 use Rattle.un_isa.specs.PacketCounts.{places_of}
 use Rattle.un_model.specs.Variables.{model_of, var_at, var_count, ops_count}
-use Rattle.un_model.proofs.Lists.{Each, Pairwise, Member, each_member, each_of, each_all, pairwise_of_map, pairwise_more, member_at}
-use Rattle.un_model.proofs.Lists.{member_map, length_get}
+use Rattle.un_lists.proofs.Lists.{Each, Pairwise, Member, each_member, each_of, each_all, pairwise_of_map, pairwise_more, member_at}
+use Rattle.un_lists.proofs.Lists.{member_map, length_get}
 use Rattle.un_emit.proofs.Timed.{Job, Stands, Deed, AreTemps, Timed, NotBoth, GiveApart, Clobbers}
 use Rattle.un_emit.proofs.Effects.{InOrder, is_access, is_effect}
 use Rattle.un_model.proofs.Placed.{Placed, placed, vars_of, issue_at, end_of, region_placed, Spot, spot, spots_of, Counts, all_count}

@@ -21,7 +21,7 @@ use Rattle.un_ir.specs.Linear.{Values, World, first_of, value_of, effect_by, ent
 use Rattle.un_model.specs.declared.model.Options.{Options}
 use Rattle.un_model.specs.declared.schedule.LiveRange.{LiveRange}
 use Rattle.un_model.specs.Variables.{var_at, ops_count}
-use Rattle.un_model.proofs.Lists.{Each, Member, each_of, place_of}
+use Rattle.un_lists.proofs.Lists.{Each, Member, each_of, place_of}
 use Rattle.un_emit.proofs.Holds.{AreTruths}
 use Rattle.un_model.proofs.Placed.{Placed, region_placed, Spot, placed_count}
 use Rattle.un_model.proofs.PlacedSchedules.{all, spots}

@@ -23,7 +23,7 @@ use Rattle.un_model.proofs.Steps.{drop_at}
 use Rattle.un_packet.specs.declared.code.CodeBlock.{CodeBlock}
 use Rattle.un_emit.specs.Emitted.{packet_with, code_block, code_blocks}
 use Rattle.un_emit.proofs.BodyLists.{map_alike, map_empty, map_more, joined_more, zip_get, pairs_get, length-pairs}
-use Rattle.un_model.proofs.Lists.{index_get}
+use Rattle.un_lists.proofs.Lists.{index_get}
 
 module _ (m : Model) (values : List ℕ) (block : ExtBlock) (vars : BlockVars) where
   abbrev end : ℕ

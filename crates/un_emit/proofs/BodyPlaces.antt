@@ -14,7 +14,7 @@ use Rattle.un_model.specs.Solutions.{IsZeroRange}
 use Rattle.un_model.specs.Variables.{model_of}
 use Rattle.un_emit.specs.Bounds.{IsPlace, HavePlaces}
 use Rattle.un_model.proofs.OpDomains.{get_places}
-use Rattle.un_model.proofs.Lists.{each_all, each_member, index_get, member_at}
+use Rattle.un_lists.proofs.Lists.{each_all, each_member, index_get, member_at}
 use Rattle.un_model.proofs.Readings.{Solved}
 use Rattle.un_emit.proofs.RulesFrame.{low}
 use Rattle.un_model.proofs.PlacedSchedules.{idle_range, the_ranges, the_reads}

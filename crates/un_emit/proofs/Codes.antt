@@ -18,7 +18,7 @@ use Rattle.un_model.specs.Variables.{model_of, block_vars, blocks_vars, block_co
 use Rattle.un_packet.specs.declared.code.CodeBlock.{CodeBlock}
 use Rattle.un_packet.specs.Run.{label_place}
 use Rattle.un_emit.specs.Emitted.{packet_with, code_block, code_blocks}
-use Rattle.un_model.proofs.Lists.{Pairwise, each_member, member_at, pairwise_all, get_below, length_get}
+use Rattle.un_lists.proofs.Lists.{Pairwise, each_member, member_at, pairwise_all, get_below, length_get}
 use Rattle.un_emit.proofs.Cycles.{packet_of, packets_from}
 use Rattle.un_model.proofs.Placed.{block_placed}
 use Rattle.un_model.proofs.PlacedSchedules.{all}

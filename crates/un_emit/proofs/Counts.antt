@@ -9,7 +9,7 @@ use Rattle.un_ir.specs.declared.function.Block.{Block}
 use Rattle.un_packet.specs.declared.code.CodeBlock.{CodeBlock}
 use Rattle.un_simulation.specs.Count.{packets_in, packets_under}
 use Rattle.un_emit.specs.Emitted.{packet_cost}
-use Rattle.un_model.proofs.Lists.{Each, Pairwise, Member, each_member}
+use Rattle.un_lists.proofs.Lists.{Each, Pairwise, Member, each_member}
 
 abbrev pub Apart : CodeBlock → CodeBlock → Type 0
 Apart a b = a.label ≢ b.label

@@ -22,10 +22,10 @@ use Rattle.un_packet.specs.declared.code.Packet.{Packet}
 use Rattle.un_packet.specs.Step.{PacketState, PacketStep, PacketStop, Went, Jumped, Stopped, Trapped, Waiting, traps, traps_by, reg_in}
 use Rattle.un_packet.specs.Step.{operand_in, operand_of, regs_after, record_of, packet_step, with_call, issue_cycle, value_of, value_by, frame_place}
 use Rattle.un_packet.specs.Run.{packets_run, then_packets, goes_on_unless, NoneWaits}
-use Rattle.un_model.proofs.Lists.{Each, Pairwise, Member, Split, split_at, Places, ahead, level, behind, two_places, find_filter}
-use Rattle.un_model.proofs.Lists.{pairwise_before, pairwise_after, each_member, each_of, each_filter, member_map, member_map_of}
-use Rattle.un_model.proofs.Lists.{member_append_left, member_append_right, member_filter, member_of_filter, any_of, none_any, found}
-use Rattle.un_model.proofs.Lists.{find_none, pairwise_two}
+use Rattle.un_lists.proofs.Lists.{Each, Pairwise, Member, Split, split_at, Places, ahead, level, behind, two_places, find_filter}
+use Rattle.un_lists.proofs.Lists.{pairwise_before, pairwise_after, each_member, each_of, each_filter, member_map, member_map_of}
+use Rattle.un_lists.proofs.Lists.{member_append_left, member_append_right, member_filter, member_of_filter, any_of, none_any, found}
+use Rattle.un_lists.proofs.Lists.{find_none, pairwise_two}
 use Rattle.un_emit.proofs.Settled.{settled, the_call, CanAnswer, first_result, step_settles}
 use Rattle.un_emit.proofs.Timed.{Job, Temps, IsInSlot, ReadsAll, Deed, computes, moves, spills, reloads, from_pred, to_pred, loads, stores}
 use Rattle.un_emit.proofs.Timed.{TestsNew, Stands, NotBoth, numbers, calls, shifts, leaves, tests, rests, Timed, AreTemps, Together, together, packet_jobs, jobs_at, issues_at}

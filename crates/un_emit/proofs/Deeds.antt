@@ -16,7 +16,7 @@ use Rattle.un_isa.specs.Does.{is_call, is_return, is_jump, is_transfer, is_new, 
 use Rattle.un_isa.proofs.DoesLaws.{alu_stays, alu_stack, alu_memory, alu_access, transfer_stack, transfer_call, transfer_control, transfer_memory, transfer_access}
 use Rattle.un_isa.proofs.DoesLaws.{new_transfer}
 use Rattle.un_packet.specs.Step.{PacketState, traps_by, value_by, reads_by, reg_in}
-use Rattle.un_model.proofs.Lists.{Each, Pairwise, Member, each_member, each_of, each_map, pairwise_more, pairwise_map}
+use Rattle.un_lists.proofs.Lists.{Each, Pairwise, Member, each_member, each_of, each_map, pairwise_more, pairwise_map}
 use Rattle.un_emit.proofs.Packet.{target, target_by, is_store, slot_by, AreApart}
 use Rattle.un_emit.proofs.Timed.{Job, Temps, Stands, IsReadAt, numbers, ReadsAll, Gives, Copies, Deed, computes, moves, spills}
 use Rattle.un_emit.proofs.Timed.{reloads, from_pred, to_pred, loads, stores, calls, shifts, leaves, tests, rests, AreTemps, NotBoth, GiveApart}

@@ -19,8 +19,8 @@ use Rattle.un_model.specs.Instructions.{instruction_of}
 use Rattle.un_model.specs.Pairs.{places_from, joined}
 use Rattle.un_ir.specs.Kinds.{is_delimiter}
 use Rattle.un_model.specs.Schedules.{read_of, value_by, instr_of}
-use Rattle.un_model.proofs.Lists.{Each, Pairwise, Member, split_at, each_member, each_of, pairwise_before, pairwise_after}
-use Rattle.un_model.proofs.Lists.{member_append_left, member_append_right}
+use Rattle.un_lists.proofs.Lists.{Each, Pairwise, Member, split_at, each_member, each_of, pairwise_before, pairwise_after}
+use Rattle.un_lists.proofs.Lists.{member_append_left, member_append_right}
 use Rattle.un_model.proofs.OpDomains.{get_places}
 use Rattle.un_model.proofs.Placed.{Placed, vars_of, issue_at, reads_at, reads_are, joined_map-append, all_count}
 use Rattle.un_model.proofs.PlacedSchedules.{all, the_reads}

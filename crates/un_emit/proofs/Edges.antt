@@ -24,7 +24,7 @@ use Rattle.un_ir.specs.Linear.{World, ending_of, taken_by, place_over, place_by,
 use Rattle.un_model.specs.declared.model.Options.{Options}
 use Rattle.un_packet.specs.Step.{PacketState}
 use Rattle.un_ir.specs.declared.extended.ExtKind.{ExtKind}
-use Rattle.un_model.proofs.Lists.{Member, each_member, each_all, each_more, member_map, member_at, get_below, length_get}
+use Rattle.un_lists.proofs.Lists.{Member, each_member, each_all, each_more, member_map, member_at, get_below, length_get}
 use Rattle.un_model.proofs.Operations.{contains_member}
 use Rattle.un_model.proofs.Placed.{Spot, spot, spots_of, vars_of}
 use Rattle.un_model.proofs.PlacedSchedules.{all, spots, range_at, the_ranges, range_get, range_here, member_joined, member_places}

@@ -16,8 +16,8 @@ use Rattle.un_isa.specs.declared.start.Reply.{Reply}
 use Rattle.un_isa.specs.Does.{is_call, writes_memory}
 use Rattle.un_ir.specs.Linear.{World}
 use Rattle.un_packet.specs.Step.{PacketState, reg_in, record_of, memory_after}
-use Rattle.un_model.proofs.Lists.{Each, Pairwise, Member, split_at, pairwise_before, pairwise_after, pairwise_two, each_member, each_of}
-use Rattle.un_model.proofs.Lists.{each_map, member_map, member_map_of, found, none_found, pairwise_map, pairwise_more}
+use Rattle.un_lists.proofs.Lists.{Each, Pairwise, Member, split_at, pairwise_before, pairwise_after, pairwise_two, each_member, each_of}
+use Rattle.un_lists.proofs.Lists.{each_map, member_map, member_map_of, found, none_found, pairwise_map, pairwise_more}
 use Rattle.un_emit.proofs.Packet.{is_store, memory_none, memory_one}
 use Rattle.un_emit.proofs.Settled.{settled, the_call, CanAnswer}
 use Rattle.un_emit.proofs.Timed.{Job, instrs, NotBoth}

@@ -13,7 +13,7 @@ use Rattle.un_model.specs.Variables.{model_of, block_vars, var_at, ops_count}
 use Rattle.un_packet.specs.Run.{NeverWaits, first_state, enter as enter_packets}
 use Rattle.un_simulation.specs.Simulation.{CanStart}
 use Rattle.un_emit.specs.Emitted.{code_block, code_blocks}
-use Rattle.un_model.proofs.Lists.{get_below}
+use Rattle.un_lists.proofs.Lists.{get_below}
 use Rattle.un_emit.proofs.Cycles.{packets_from}
 use Rattle.un_model.proofs.Placed.{block_placed}
 use Rattle.un_emit.proofs.Jobs.{jobs_of}

@@ -13,8 +13,8 @@ use Rattle.un_isa.specs.Does.{jumps as jumps_to, returns, tests_new, branches_ne
 use Rattle.un_isa.proofs.DoesLaws.{return_transfer, jump_transfer, transfer_control}
 use Rattle.un_packet.specs.Step.{PacketState, PacketStep, Went, Jumped, Stopped, Returned, operand_in, jumps, goes_by, is_taken, leads}
 use Rattle.un_packet.specs.Step.{goes_on, operand_of, regs_after}
-use Rattle.un_model.proofs.Lists.{Each, Pairwise, Member, each_member, each_of, member_map, member_map_of, found, none_found, find_none}
-use Rattle.un_model.proofs.Lists.{pairwise_two}
+use Rattle.un_lists.proofs.Lists.{Each, Pairwise, Member, each_member, each_of, member_map, member_map_of, found, none_found, find_none}
+use Rattle.un_lists.proofs.Lists.{pairwise_two}
 use Rattle.un_emit.proofs.Settled.{the_return}
 use Rattle.un_emit.proofs.Timed.{Job, instrs, NotBoth}
 
@@ -53,7 +53,7 @@ found_one test js j m p alone = go (find test (instrs js)) refl
         e ∙ ap Some (sym r.2 ∙ ap (λ (k : Job). k.instr) same)
 
 found_none : (test : Instr → Bool) (js : List Job) → ((i : Job) → Member i js → test i.instr ≡ false) → find test (instrs js) ≡ None
-found_none test js h = find_none test (instrs js) (Rattle.un_model.proofs.Lists.each_map (λ i. test i ≡ false) (λ (j : Job). j.instr) js
+found_none test js h = find_none test (instrs js) (Rattle.un_lists.proofs.Lists.each_map (λ i. test i ≡ false) (λ (j : Job). j.instr) js
     (each_of (λ (i : Job). test i.instr ≡ false) js h))
 
 goes_jump : (does : Does) (v w : ℕ) → goes_by does v w ≡ true → jumps_to does ≡ true

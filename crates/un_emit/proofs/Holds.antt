@@ -20,8 +20,8 @@ use Rattle.un_ir.specs.declared.function.Kind.TheVariants.{Pred}
 use Rattle.un_isa.specs.declared.reg.TheConstants.{STACK, GENERALS, REGISTERS, FIRST_SLOT}
 use Rattle.un_packet.specs.Step.{PacketState, value_of, value_by, reg_in, operand_in, frame_place}
 use Rattle.un_simulation.specs.Simulation.{as_held, held_at}
-use Rattle.un_model.proofs.Lists.{Each, Member, each_member, each_of, each_map, member_map, member_map_of, found, none_found, pairwise_map}
-use Rattle.un_model.proofs.Lists.{pairwise_more}
+use Rattle.un_lists.proofs.Lists.{Each, Member, each_member, each_of, each_map, member_map, member_map_of, found, none_found, pairwise_map}
+use Rattle.un_lists.proofs.Lists.{pairwise_more}
 use Rattle.un_emit.proofs.Packet.{puts, given, given_by, slot, slot_by, AreApart, length-puts, puts_other, puts_own}
 use Rattle.un_emit.proofs.Settled.{settled, the_call, CanAnswer, clobbered_by, first_result, settled_frame, settled_frame_start}
 use Rattle.un_emit.proofs.Settled.{length-settled_regs, reg_kept, reg_written, reg_result}

@@ -10,7 +10,7 @@ use Rattle.un_ir.specs.Extended.{in_kinds, result_count}
 use Rattle.un_ir.specs.Linear.{in_temps}
 use Rattle.un_model.specs.declared.model.Options.{Options}
 use Rattle.un_ir.specs.declared.extended.ExtKind.{ExtKind}
-use Rattle.un_model.proofs.Lists.{Member, member_map}
+use Rattle.un_lists.proofs.Lists.{Member, member_map}
 use Rattle.un_model.proofs.Placed.{Placed, spot, spots_of, region_placed}
 use Rattle.un_model.proofs.PlacedSchedules.{all, member_joined, member_places}
 use Rattle.un_model.proofs.TempKinds.{kind_at, kind_or, own_kind, carried_at}

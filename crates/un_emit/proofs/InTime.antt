@@ -12,7 +12,7 @@ use Rattle.un_isa.specs.declared.table.Table.{Table}
 use Rattle.un_isa.specs.declared.reg.TheConstants.{STACK, REGISTERS, FIRST_SLOT}
 use Rattle.un_isa.specs.Does.{is_call, is_new, moves_stack}
 use Rattle.un_packet.specs.Step.{PacketState, issue_cycle, reads_of}
-use Rattle.un_model.proofs.Lists.{Each, Member, each_member, each_of, each_map, each_more, member_map, member_map_of, found, none_found}
+use Rattle.un_lists.proofs.Lists.{Each, Member, each_member, each_of, each_map, each_more, member_map, member_map_of, found, none_found}
 use Rattle.un_emit.proofs.Packet.{target, issues_next}
 use Rattle.un_emit.proofs.Settled.{settled, the_call, CanAnswer, clobbered_by, settled_cycle, length-settled_ready, ready_kept}
 use Rattle.un_emit.proofs.Settled.{ready_written, ready_clobbered}

@@ -49,7 +49,7 @@ use Rattle.un_model.proofs.Gaps.{is_fresh_in, is_branch_in, is_compare_in, no_br
 use Rattle.un_domains.specs.declared.domain.Domain.TheVariants.{Set}
 use Rattle.un_model.specs.Variables.{model_of, result_domain, carried as value_carried, register_domain, source_domain, register_place}
 use Rattle.un_simulation.specs.Simulation.{as_held}
-use Rattle.un_model.proofs.Lists.{Each, Member, slice_get-map, member_map}
+use Rattle.un_lists.proofs.Lists.{Each, Member, slice_get-map, member_map}
 use Rattle.un_emit.proofs.FramePlace.{held_pred}
 use Rattle.un_emit.proofs.Timed.{Temps, IsReadAt, IsPlain, numbers, ReadsAll, Gives, GivesReg, GivesResult, Copies}
 use Rattle.un_emit.proofs.Timed.{IsInSlot, Deed, computes, moves, spills, reloads, from_pred, to_pred, loads, stores, calls, shifts, leaves, tests}

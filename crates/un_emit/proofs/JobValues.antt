@@ -35,7 +35,7 @@ use Rattle.un_model.specs.Instructions.{instruction_of, transfer_of, copy_of, fr
 use Rattle.un_model.specs.Pairs.{places_from}
 use Rattle.un_model.specs.Schedules.{choice_of, value_by, schedule_of}
 use Rattle.un_model.specs.Variables.{model_of}
-use Rattle.un_model.proofs.Lists.{Each, Member, Places, ahead, level, behind, two_places}
+use Rattle.un_lists.proofs.Lists.{Each, Member, Places, ahead, level, behind, two_places}
 use Rattle.un_model.proofs.Transfers.{transfer_leaves, copy_copies}
 use Rattle.un_emit.proofs.Timed.{Job}
 use Rattle.un_emit.proofs.Settled.{first_result}

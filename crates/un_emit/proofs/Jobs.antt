@@ -16,7 +16,7 @@ use Rattle.un_model.specs.Emission.{emitted_instr, issued_in, instrs_in, or_nop}
 use Rattle.un_model.specs.Pairs.{places_from, joined}
 use Rattle.un_model.specs.Schedules.{choice_of, cycle_of}
 use Rattle.un_model.specs.Variables.{op_vars, ops_vars, var_count, var_at, ops_count, block_vars}
-use Rattle.un_model.proofs.Lists.{map-append}
+use Rattle.un_lists.proofs.Lists.{map-append}
 use Rattle.un_model.proofs.Placed.{Placed, placed, block_placed, vars_of, issue_at, end_of}
 use Rattle.un_emit.proofs.Timed.{Job, instrs, jobs_at, issues_at, or_rest, packet_jobs}
 

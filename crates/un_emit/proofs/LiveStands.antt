@@ -25,7 +25,7 @@ use Rattle.un_packet.specs.Step.{PacketState}
 use Rattle.un_simulation.specs.Simulation.{LiveStand, held_at, as_held}
 use Rattle.un_emit.specs.Emitted.{place_number, start_places}
 use Rattle.un_emit.specs.OfSource.{IsOfSource}
-use Rattle.un_model.proofs.Lists.{get_below, length_get, member_map}
+use Rattle.un_lists.proofs.Lists.{get_below, length_get, member_map}
 use Rattle.un_emit.proofs.OfSource.{lists_are, labels_at}
 use Rattle.un_model.proofs.Operations.{contains_member}
 use Rattle.un_model.proofs.Placed.{spot, spots_of}

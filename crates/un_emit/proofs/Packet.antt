@@ -19,7 +19,7 @@ use Rattle.un_isa.specs.declared.start.Reply.{Reply}
 use Rattle.un_isa.specs.declared.reg.TheConstants.{STACK}
 use Rattle.un_packet.specs.Step.{PacketState, writes_by, value_of, put_all, regs_after, ready_after, memory_after, memory_by, frame_after}
 use Rattle.un_packet.specs.Step.{frame_by, frame_place, operand_in, each_from, replied, call_ready, reads_of, issue_cycle}
-use Rattle.un_model.proofs.Lists.{Each, Pairwise, Member, each_member, each_of, each_join}
+use Rattle.un_lists.proofs.Lists.{Each, Pairwise, Member, each_member, each_of, each_join}
 
 -- ---- lists with numbers put at places of them
 

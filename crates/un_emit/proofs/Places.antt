@@ -66,8 +66,8 @@ use Rattle.un_emit.proofs.JobDeeds.{temps_of, one_zip}
 use Rattle.un_model.proofs.PlacedSchedules.{all, spots, the_ranges, range_at, spot_range, given_space, member_joined, member_places}
 use Rattle.un_model.proofs.Readings.{Solved, numbered, fit_kinds, placed_good, placed_domains}
 use Rattle.un_emit.proofs.BlockTimed.{its_spot, definer_of, range_in}
-use Rattle.un_model.proofs.Lists.{length_get, member_map, place_of, member_at, each_more, Each, Member, each_member, each_of, each_join}
-use Rattle.un_model.proofs.Lists.{any_of, member_of_filter}
+use Rattle.un_lists.proofs.Lists.{length_get, member_map, place_of, member_at, each_more, Each, Member, each_member, each_of, each_join}
+use Rattle.un_lists.proofs.Lists.{any_of, member_of_filter}
 
 -- ---- registers that are never the stack pointer
 

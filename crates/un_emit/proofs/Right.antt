@@ -20,7 +20,7 @@ use Rattle.un_emit.specs.OfSource.{IsOfSource, IsRightFor}
 use Rattle.un_emit.proofs.Codes.{labels_kept}
 use Rattle.un_emit.proofs.Costs.{cost_is}
 use Rattle.un_emit.proofs.Counts.{Apart, counted}
-use Rattle.un_model.proofs.Lists.{Pairwise, Member, each_of, pairwise_all, pairwise_map, pairwise_of_map}
+use Rattle.un_lists.proofs.Lists.{Pairwise, Member, each_of, pairwise_all, pairwise_map, pairwise_of_map}
 use Rattle.un_emit.proofs.Simulating.{simulates}
 use Rattle.un_emit.proofs.SolvedModels.{solved}
 

@@ -23,8 +23,8 @@ use Rattle.un_emit.proofs.Costs.{block_number, frame_whole}
 use Rattle.un_emit.proofs.Cycles.{packet_of, each_packet}
 use Rattle.un_emit.proofs.Emission.{is_code}
 use Rattle.un_emit.proofs.JobDeeds.{temps_of}
-use Rattle.un_model.proofs.Lists.{Pairwise, each_of, each_map, get_below, slice_get-map, length_get, pairwise_all, pairwise_map}
-use Rattle.un_model.proofs.Lists.{pairwise_of_map}
+use Rattle.un_lists.proofs.Lists.{Pairwise, each_of, each_map, get_below, slice_get-map, length_get, pairwise_all, pairwise_map}
+use Rattle.un_lists.proofs.Lists.{pairwise_of_map}
 use Rattle.un_model.proofs.Placed.{region_placed}
 use Rattle.un_emit.proofs.Places.{words, placing}
 use Rattle.un_model.proofs.Readings.{Solved, good}

@@ -16,7 +16,7 @@ use Rattle.un_packet.specs.declared.code.TheConstants.{PACKETS}
 use Rattle.un_emit.specs.Emitted.{code_block, code_blocks}
 use Rattle.un_emit.proofs.Costs.{packet_count}
 use Rattle.un_model.proofs.OpDomains.{Sits, keeps_sits, sits_left, sits_right, length-ops_domains, length-block}
-use Rattle.un_model.proofs.Lists.{Each, each_all, each_more}
+use Rattle.un_lists.proofs.Lists.{Each, each_all, each_more}
 use Rattle.un_model.proofs.Readings.{Solved, good}
 use Rattle.un_emit.proofs.RulesLists.{total, sum_total}
 

@@ -30,7 +30,7 @@ use Rattle.un_emit.proofs.Cycles.{packet_of, packets_from, each_packet}
 use Rattle.un_emit.proofs.Exits.{is_false}
 use Rattle.un_emit.proofs.JobDeeds.{temps_of}
 use Rattle.un_emit.proofs.Own.{own_op, own_by, transfer_alike, jump_alike, leaving_alike}
-use Rattle.un_model.proofs.Lists.{Member, each_member, each_of, each_map, any_none, found, member_map, member_filter, slice_get-map}
+use Rattle.un_lists.proofs.Lists.{Member, each_member, each_of, each_map, any_none, found, member_map, member_filter, slice_get-map}
 use Rattle.un_model.proofs.Placed.{Placed, region_placed}
 use Rattle.un_emit.proofs.Places.{words, placing, any_true}
 use Rattle.un_model.proofs.Readings.{Solved, good}

@@ -30,7 +30,7 @@ use Rattle.un_model.specs.Solutions.{InDomain}
 use Rattle.un_model.specs.Variables.{model_of, register_domain, source_domain, register_place, carried}
 use Rattle.un_emit.proofs.BlockTimed.{definer_of, range_in}
 use Rattle.un_model.proofs.OpDomains.{register_sits, in_entry}
-use Rattle.un_model.proofs.Lists.{Each, each_member, each_of, each_join, member_of_filter, place_of}
+use Rattle.un_lists.proofs.Lists.{Each, each_member, each_of, each_join, member_of_filter, place_of}
 use Rattle.un_model.proofs.Operations.{contains_member}
 use Rattle.un_model.proofs.Readings.{Solved, numbered, placed_domains}
 use Rattle.un_emit.proofs.RulesLists.{range_below}

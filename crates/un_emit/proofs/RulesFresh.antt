@@ -17,7 +17,7 @@ use Rattle.un_emit.proofs.Places.{any_true}
 use Rattle.un_emit.proofs.RulesLists.{all_each}
 use Rattle.un_emit.proofs.Timed.{Job, Temps, TestsNew, Deed, computes, moves, spills, reloads, from_pred, to_pred, loads, stores, calls}
 use Rattle.un_emit.proofs.Timed.{shifts, leaves, tests, rests, Together, instrs, gives_of}
-use Rattle.un_model.proofs.Lists.{Member, each_member, each_of, each_map, member_map}
+use Rattle.un_lists.proofs.Lists.{Member, each_member, each_of, each_map, member_map}
 
 -- an instruction that writes the register with number n
 names : (dst : Option Reg) (n : ℕ) → option_map (λ (r : Reg). r.0) dst ≡ Some n → option_map_or (λ (r : Reg). r.0 == n) dst false ≡ true

@@ -48,7 +48,7 @@ use Rattle.un_emit.proofs.Own.{own_op, own_emitted}
 use Rattle.un_emit.proofs.JobDeeds.{TextClass, text_class, alu, load as loading, store as storing, call as calling, space_for, result_in}
 use Rattle.un_emit.proofs.JobDeeds.{operand_register, read_space, result_spot, result_space as given_in, one_result, has_result, CopyParts}
 use Rattle.un_emit.proofs.JobDeeds.{copy_parts}
-use Rattle.un_model.proofs.Lists.{Each, Member, each_member, each_more, member_at, member_map, slice_get-map}
+use Rattle.un_lists.proofs.Lists.{Each, Member, each_member, each_more, member_at, member_map, slice_get-map}
 use Rattle.un_model.proofs.Placed.{Placed, vars_of, issue_at, spot, spots_of}
 use Rattle.un_emit.proofs.Places.{not_stack}
 use Rattle.un_model.proofs.Readings.{Solved, good, numbered, placed_good, reading, register_is}

@@ -5,7 +5,7 @@ use Rattle.std.specs.Prelude.{Option, Some, slice_get, sum_by, nat_lt, IsSomeAnd
 use Rattle.std.specs.List.{flat_map, range_with_len, list_all, AllZip}
 use Rattle.std.proofs.lemmas.Bool.{and_parts, ltb-true}
 use Rattle.std.proofs.lemmas.List.Sums.{sum_by-cons}
-use Rattle.un_model.proofs.Lists.{Each, Pairwise, Member, each_member, each_of, each_more, each_join, index_get, get_below, length_get}
+use Rattle.un_lists.proofs.Lists.{Each, Pairwise, Member, each_member, each_of, each_more, each_join, index_get, get_below, length_get}
 use Rattle.un_model.proofs.PlacedSchedules.{split_member}
 
 -- ---- all, and all pairs

@@ -32,7 +32,7 @@ use Rattle.un_model.specs.Emission.{slot_offset, label_at, label_of}
 use Rattle.un_model.specs.Instructions.{transfer_of, copy_of, operand_space_in, result_space_in}
 use Rattle.un_packet.specs.CodeRules.{ReadsItsSpaces, WritesItsSpace, HasItsNumber, HasItsLabel, HasLabelOf, HasItsBase, IsSomeName, minus}
 use Rattle.un_emit.proofs.BlockEdges.{EndsBy, falls, ends}
-use Rattle.un_model.proofs.Lists.{Each, Member, each_member, get_below}
+use Rattle.un_lists.proofs.Lists.{Each, Member, each_member, get_below}
 use Rattle.un_emit.proofs.RulesFrame.{IsLow}
 use Rattle.un_emit.proofs.Own.{own_op}
 

@@ -35,7 +35,7 @@ use Rattle.un_emit.proofs.BlockJobs.{InRegion, job_is, each_job}
 use Rattle.un_emit.proofs.BlockTimed.{own_jobs, its_block, here, job_op}
 use Rattle.un_emit.proofs.Jobs.{job_with, job_by, instr_at, jobs_of}
 use Rattle.un_emit.proofs.Own.{own_by, class_alike, nop_alike}
-use Rattle.un_model.proofs.Lists.{Each, Member, each_of, each_map, each_filter, any_none}
+use Rattle.un_lists.proofs.Lists.{Each, Member, each_of, each_map, each_filter, any_none}
 use Rattle.un_model.proofs.Placed.{Placed, vars_of, issue_at, issues_are, region_placed}
 use Rattle.un_emit.proofs.Places.{words, placing}
 use Rattle.un_model.proofs.Readings.{Solved, placed_good}

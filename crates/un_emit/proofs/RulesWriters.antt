@@ -17,7 +17,7 @@ use Rattle.un_isa.specs.declared.table.Table.{Table}
 use Rattle.un_isa.specs.Does.{moves_stack, is_control}
 use Rattle.un_packet.specs.CodeRules.{number, written, written_by}
 use Rattle.un_emit.proofs.Deeds.{writes, apart_targets}
-use Rattle.un_model.proofs.Lists.{Each, Pairwise, Member, each_member, each_of, pairwise_map, pairwise_more, pairwise_of_map}
+use Rattle.un_lists.proofs.Lists.{Each, Pairwise, Member, each_member, each_of, pairwise_map, pairwise_more, pairwise_of_map}
 use Rattle.un_emit.proofs.Packet.{target, target_by}
 use Rattle.un_emit.proofs.RulesLists.{rising_apart, each_pass, all_pairwise, pairwise_flat, pairwise_both}
 use Rattle.un_emit.proofs.Timed.{Job, Temps, Stands, Gives, Deed, AreTemps, NotBoth, GiveApart, Clobbers, Together, instrs}

@@ -43,7 +43,7 @@ use Rattle.un_packet.specs.Step.{Waiting as WaitingFor, Running as RunningAt}
 use Rattle.un_packet.specs.Run.{PacketRun, packets_run, label_place, leave as leave_packets, through as through_packets}
 use Rattle.un_packet.specs.Run.{enter as enter_packets, NoneWaits, never_after, never_through, NeverWaits}
 use Rattle.un_simulation.specs.Simulation.{as_held, held_at}
-use Rattle.un_model.proofs.Lists.{Member, each_member, each_all, each_more, member_at, get_below, member_of_filter, length_get}
+use Rattle.un_lists.proofs.Lists.{Member, each_member, each_all, each_more, member_at, get_below, member_of_filter, length_get}
 use Rattle.un_model.proofs.Operations.{contains_member}
 use Rattle.un_emit.proofs.Exits.{transfer_of, exit_of, exit_by}
 use Rattle.un_emit.proofs.Effects.{run_jobs, run_done, is_effect, call_of}

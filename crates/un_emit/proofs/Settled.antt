@@ -11,7 +11,7 @@ use Rattle.un_isa.specs.declared.start.Reply.{Reply}
 use Rattle.un_isa.specs.Does.{is_call, is_return}
 use Rattle.un_packet.specs.Step.{PacketState, Stopped, Trapped, after, answered, record_of, issue_cycle, regs_after}
 use Rattle.un_packet.specs.Step.{ready_after, traps, packet_step, with_call, leads, operand_in, replied, call_ready}
-use Rattle.un_model.proofs.Lists.{Each, Member}
+use Rattle.un_lists.proofs.Lists.{Each, Member}
 use Rattle.un_emit.proofs.Packet.{puts, target, given, slot, AreApart, length-puts, puts_other, puts_own, regs_are_put, ready_is_put}
 use Rattle.un_emit.proofs.Packet.{frame_is_put, replied_at, length-replied, call_ready_at, length-call_ready}
 

@@ -33,7 +33,7 @@ use Rattle.un_simulation.specs.Simulation.{CanStart, Agrees, StopsAgree, Simulat
 use Rattle.un_emit.specs.Emitted.{code_block, code_blocks, IsEmitted, start_places}
 use Rattle.un_emit.specs.OfSource.{IsOfSource}
 use Rattle.un_emit.proofs.Codes.{labels_kept}
-use Rattle.un_model.proofs.Lists.{Member, member_filter, slice_get-map}
+use Rattle.un_lists.proofs.Lists.{Member, member_filter, slice_get-map}
 use Rattle.un_model.proofs.Readings.{Solved}
 use Rattle.un_emit.proofs.Runs.{RunsAlike, StopsAlike}
 use Rattle.un_emit.proofs.Emission.{runs_alike}

@@ -33,8 +33,8 @@ use Rattle.un_model.specs.Schedules.{value_by, instr_of, issues_of, schedule_of}
 use Rattle.un_model.specs.declared.schedule.Issue.{Issue}
 use Rattle.un_model.specs.Solutions.{frame_distance, HasFrame, is_frame_access, starts_in_slot}
 use Rattle.un_model.specs.Variables.{model_of}
-use Rattle.un_model.proofs.Lists.{Each, Member, each_member, each_of, pairwise_two, any_of, any_none, none_any, member_map, each_all}
-use Rattle.un_model.proofs.Lists.{member_at, place_of, member_filter, member_of_filter}
+use Rattle.un_lists.proofs.Lists.{Each, Member, each_member, each_of, pairwise_two, any_of, any_none, none_any, member_map, each_all}
+use Rattle.un_lists.proofs.Lists.{member_at, place_of, member_filter, member_of_filter}
 use Rattle.un_emit.proofs.FramePlace.{le_true, le_false}
 use Rattle.un_model.proofs.Placed.{issues_are, placed, Placed, vars_of, issue_at, region_placed}
 use Rattle.un_model.proofs.PlacedSchedules.{all, the_ranges, each_issue}

@@ -31,7 +31,7 @@ use Rattle.un_model.specs.Cost.{value_of}
 use Rattle.un_model.specs.Variables.{model_of, register_domain, result_domain, home_domain, carried, start_domain}
 use Rattle.un_packet.specs.Run.{first_state}
 use Rattle.un_simulation.specs.Simulation.{CanStart, as_held, held_at}
-use Rattle.un_model.proofs.Lists.{Member, each_member, each_all, member_at, member_map, member_of_filter, get_below, length_get}
+use Rattle.un_lists.proofs.Lists.{Member, each_member, each_all, member_at, member_map, member_of_filter, get_below, length_get}
 use Rattle.un_model.proofs.Operations.{contains_member}
 use Rattle.un_model.proofs.Placed.{Placed, spot, spots_of}
 use Rattle.un_model.proofs.PlacedSchedules.{all, spots, range_at, range_here, member_joined, member_places}

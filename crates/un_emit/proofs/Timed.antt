@@ -17,7 +17,7 @@ use Rattle.un_ir.specs.declared.function.Kind.{Kind}
 use Rattle.un_ir.specs.declared.function.Kind.TheVariants.{Pred}
 use Rattle.un_isa.specs.declared.reg.TheConstants.{STACK, GENERALS, FIRST_SLOT}
 use Rattle.un_simulation.specs.Simulation.{as_held}
-use Rattle.un_model.proofs.Lists.{Each, Pairwise, Member, each_member, each_filter, each_passes, each_more, pairwise_filter, member_filter}
+use Rattle.un_lists.proofs.Lists.{Each, Pairwise, Member, each_member, each_filter, each_passes, each_more, pairwise_filter, member_filter}
 
 -- an active operation that is an instruction: its cycle, the temporaries that it reads in order, and the one that it gives
 pub record Job : Type 0 where

@@ -14,7 +14,7 @@ use Rattle.un_ir.specs.declared.extended.Ext.{Ext}
 use Rattle.un_ir.specs.Linear.{Values, World, Effect, Gives, Stops, LinearState, defined, defined_all, first_of, value_of, effect_of}
 use Rattle.un_model.specs.declared.model.Options.{Options}
 use Rattle.un_model.specs.Pairs.{places_from}
-use Rattle.un_model.proofs.Lists.{Each, Member, each_of, member_map, place_of}
+use Rattle.un_lists.proofs.Lists.{Each, Member, each_of, member_map, place_of}
 use Rattle.un_model.proofs.Placed.{Placed, Spot, spot, spots_of, Counts}
 use Rattle.un_model.proofs.PlacedSchedules.{all, spots, one_spot, member_joined, member_places}
 use Rattle.un_model.proofs.Readings.{Solved, numbered}

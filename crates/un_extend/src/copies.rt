@@ -22,7 +22,7 @@ pub fn copied<T: Copy>(alloc: Global, items: &[T]) -> Result<Items<T>, NoMemory>
 }
 
 /// So many temporaries from number `first` on, behind those so far.
-pub fn push_temps(temps: &mut Items<TempId>, first: u32, count: u32) -> Result<(), NoMemory>
+pub(crate) fn push_temps(temps: &mut Items<TempId>, first: u32, count: u32) -> Result<(), NoMemory>
     ensures { OnOk result (temps.new ≡ temps.old ++ map temp (range_with_len first count)) }
 {
     for k in 0..count {
@@ -49,7 +49,7 @@ pub fn add_op(
 }
 
 /// Adds the operation that moves the stack pointer, Enter or Leave.
-pub fn push_frame_op(alloc: Global, g: &mut Growth, kind: ExtKind) -> Result<(), NoMemory>
+pub(crate) fn push_frame_op(alloc: Global, g: &mut Growth, kind: ExtKind) -> Result<(), NoMemory>
     ensures { OnOk result (g.new ≡ with_op g.old (frame_op kind)) }
 {
     add_op(g, kind, Items::new(alloc), Items::new(alloc))
@@ -94,7 +94,7 @@ fn push_two_copies(
 
 /// Adds the copies of a value of this sort, or of an operand that reads it, where there are any: the first may read these
 /// temporaries, and the second the first besides.
-pub fn push_copies(
+pub(crate) fn push_copies(
     alloc: Global,
     g: &mut Growth,
     first: NodeCopy,

@@ -229,7 +229,7 @@ fn push_extended(
 }
 
 /// Adds operations with their copies.
-pub fn push_all_extended(
+pub(crate) fn push_all_extended(
     alloc: Global,
     g: &mut Growth,
     names: &[Kind],

@@ -44,7 +44,7 @@ fn push_value(alloc: Global, g: &mut Growth, n: u32, sort: Sort) -> Result<(), N
 }
 
 /// Adds values of these sorts whose temporaries begin with `first`, each with its copies.
-pub fn push_values(
+pub(crate) fn push_values(
     alloc: Global,
     g: &mut Growth,
     first: u32,

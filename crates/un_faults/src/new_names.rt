@@ -83,7 +83,11 @@ fn push_line(known: &Names, new: &mut Items<(Name, Kind)>, line: &Line) -> Resul
 }
 
 /// The names of the line that are not known, each once, from left to right.
-pub fn new_names(alloc: Global, known: &Names, line: &Line) -> Result<Items<(Name, Kind)>, NoMemory>
+pub(crate) fn new_names(
+    alloc: Global,
+    known: &Names,
+    line: &Line,
+) -> Result<Items<(Name, Kind)>, NoMemory>
     ensures { IfOk result (λ new. known.now ++ new ≡ numbered known.now (names_on line.now)) }
 {
     let mut new = Items::new(alloc);

@@ -142,7 +142,7 @@ fn saved_change(facts: &Facts, places: &Places, group: u32, noise: &mut Noise) -
 }
 
 /// A place by chance for a name at one of a block's ends, or for a saved value.
-pub fn any_change(
+pub(crate) fn any_change(
     facts: &Facts,
     places: &Places,
     block: &Block,
@@ -187,7 +187,7 @@ fn reaches(facts: &Facts, old: &Places, change: Change, h: u32, wide: bool) -> b
 }
 
 /// Whether a change leads to another place, and the key's place is open.
-pub fn is_change(facts: &Facts, places: &Places, change: Change) -> bool {
+pub(crate) fn is_change(facts: &Facts, places: &Places, change: Change) -> bool {
     let present = places.at(change.group, change.key);
     let is_open = facts.is_free(change.group, change.key);
     change.place < REGISTERS && change.place != present && is_open
@@ -195,7 +195,7 @@ pub fn is_change(facts: &Facts, places: &Places, change: Change) -> bool {
 
 /// Puts one key of a group into a place: there alone, wherever it has the same place (wide), or a saved value in its region. The
 /// new places are the old ones before, and the change is one. Whether it can.
-pub fn change_place(
+pub(crate) fn change_place(
     facts: &Facts,
     old: &Places,
     new: &mut Places,

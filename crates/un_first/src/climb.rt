@@ -235,7 +235,12 @@ impl<'a> Search<'a> {
 
     /// Changes places until `reserve` trials are left, or nothing was gained for long: then those above the reserve are left out. Answers
     /// the best plan.
-    pub fn climb(&mut self, alloc: Global, start: Plan, reserve: u64) -> Result<Plan, AllocError> {
+    pub(crate) fn climb(
+        &mut self,
+        alloc: Global,
+        start: Plan,
+        reserve: u64,
+    ) -> Result<Plan, AllocError> {
         let mut plans = Plans::new(alloc, self.facts, start)?;
         let begin = Climb {
             effort: 4,
@@ -268,7 +273,7 @@ impl<'a> Search<'a> {
     }
 
     /// Makes more and more trials for the blocks above their least ends, and for copies.
-    pub fn spend(&mut self, plan: &mut Plan) -> Result<(), AllocError> {
+    pub(crate) fn spend(&mut self, plan: &mut Plan) -> Result<(), AllocError> {
         self.saves_copies = true;
         let mut effort = 8u64;
         for _ in 3..32 {

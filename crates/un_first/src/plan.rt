@@ -53,13 +53,13 @@ pub struct Cost {
 }
 
 /// No schedule is larger.
-pub const UNLIMITED: Size = Size {
+pub(crate) const UNLIMITED: Size = Size {
     end: u32::MAX,
     copies: u32::MAX,
 };
 
 /// More than any plan costs.
-pub const ENDLESS: Cost = Cost {
+pub(crate) const ENDLESS: Cost = Cost {
     cycles: u64::MAX,
     copies: 0,
 };
@@ -72,7 +72,7 @@ impl Cost {
 }
 
 /// Makes a list that of other items.
-pub fn copy_list(to: &mut Vec<u32>, from: &[u32]) -> Result<(), AllocError> {
+pub(crate) fn copy_list(to: &mut Vec<u32>, from: &[u32]) -> Result<(), AllocError> {
     to.clear();
     to.extend_from_slice(from)
 }

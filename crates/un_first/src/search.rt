@@ -339,7 +339,7 @@ impl<'a> Search<'a> {
     }
 
     /// Makes the plan's recipes those of the first trials under other places.
-    pub fn remember(&mut self, plan: &Plan) -> Result<(), AllocError> {
+    pub(crate) fn remember(&mut self, plan: &Plan) -> Result<(), AllocError> {
         for (seed, mine) in self.seeds.iter_mut().zip(plan.blocks.as_slice()) {
             if mine.is_found {
                 seed.is_there = true;
@@ -352,7 +352,7 @@ impl<'a> Search<'a> {
 
 impl<'a> Search<'a> {
     /// A plan of other facts without its trials; its recipes are those of the first ones.
-    pub fn restarted(&mut self, plan: Plan) -> Result<Plan, AllocError> {
+    pub(crate) fn restarted(&mut self, plan: Plan) -> Result<Plan, AllocError> {
         let mut new = plan;
         self.remember(&new)?;
         for mine in new.blocks.iter_mut() {

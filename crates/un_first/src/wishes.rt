@@ -40,7 +40,7 @@ impl Saving {
 }
 
 /// A block by chance: by the cost above its least, where no block has any by its copies, one in four any.
-pub fn pick_block(facts: &Facts, plan: &Plan, noise: &mut Noise) -> u32 {
+pub(crate) fn pick_block(facts: &Facts, plan: &Plan, noise: &mut Noise) -> u32 {
     let above = Saving::Cycles.total(facts, plan);
     let (saving, total) = if above > 0 {
         (Saving::Cycles, above)
@@ -129,7 +129,7 @@ impl<'a> Reading<'a> {
 
 /// A place that makes a copy of a block's schedule needless: where a copy of a value from the block's start went, or where a value
 /// stood that was copied to its place at the end.
-pub fn wish_of(block: &Block, mine: &BlockPlan, noise: &mut Noise) -> Option<Change> {
+pub(crate) fn wish_of(block: &Block, mine: &BlockPlan, noise: &mut Noise) -> Option<Change> {
     if !mine.is_found {
         return None;
     }

@@ -37,7 +37,7 @@ pub fn jump_in(text: &[u8]) -> Option<Jump<'_>> {
 }
 
 /// The label to which a hardware loop goes back, where an instruction begins one.
-pub fn loop_in(text: &[u8]) -> Option<&[u8]> {
+pub(crate) fn loop_in(text: &[u8]) -> Option<&[u8]> {
     let rest = match text.strip_prefix(b"loop0(") {
         Some(rest) => rest,
         None => text.strip_prefix(b"loop1(")?,
@@ -52,7 +52,7 @@ pub fn leaves(text: &[u8]) -> bool {
 }
 
 /// Whether an instruction always leaves its block.
-pub fn always_leaves(text: &[u8]) -> bool {
+pub(crate) fn always_leaves(text: &[u8]) -> bool {
     text.starts_with(b"jump")
 }
 
@@ -115,7 +115,7 @@ fn put_jump(out: &mut Vec<u8>, before: &[u8], block: u32) -> Result<(), NoMemory
 
 /// Appends an instruction as `alloc` would print it: a jump without its hint, its label as `b` and the number of its block, and a call
 /// with the registers of as many arguments as the function's call has.
-pub fn put_plain(
+pub(crate) fn put_plain(
     out: &mut Vec<u8>,
     listing: &Listing<'_>,
     f: &Function,

@@ -30,7 +30,7 @@ fn last_end(text: &[u8]) -> usize {
 }
 
 /// A text without blanks at its ends.
-pub fn trimmed(text: &[u8]) -> &[u8] {
+pub(crate) fn trimmed(text: &[u8]) -> &[u8] {
     let front = text
         .iter()
         .position(|b| !is_blank(*b))

@@ -77,7 +77,7 @@ fn with_number(what: Binary, number: i32) -> Option<(Op, i32)> {
 
 impl<'f, 'a> Lowering<'f, 'a> {
     /// An operation whose result is the word of a value.
-    pub fn word_for(
+    pub(crate) fn word_for(
         &mut self,
         value: Option<ValueId>,
         op: Op,
@@ -91,7 +91,7 @@ impl<'f, 'a> Lowering<'f, 'a> {
     }
 
     /// The one or the other of two words, which is the word of a value.
-    pub fn choice_for(
+    pub(crate) fn choice_for(
         &mut self,
         value: Option<ValueId>,
         truth: Truth,
@@ -126,7 +126,7 @@ impl<'f, 'a> Lowering<'f, 'a> {
     }
 
     /// The power of two by which an instruction divides numbers with signs, where it is one that does.
-    pub fn power_divided(&self, instruction: &Instruction<'a>) -> Option<i32> {
+    pub(crate) fn power_divided(&self, instruction: &Instruction<'a>) -> Option<i32> {
         match &instruction.action {
             Action::Compute {
                 what: Binary::Divide | Binary::Remainder,

@@ -57,7 +57,12 @@ impl<'f, 'a> Lowering<'f, 'a> {
     }
 
     /// A word shifted by the lower five bits of an amount.
-    pub fn shifted_by(&mut self, op: Op, word: NameId, amount: NameId) -> Result<NameId, NoMemory> {
+    pub(crate) fn shifted_by(
+        &mut self,
+        op: Op,
+        word: NameId,
+        amount: NameId,
+    ) -> Result<NameId, NoMemory> {
         let mut shifted = word;
         for by in SHIFTS.iter() {
             shifted = self.shifted_once(op, shifted, amount, *by)?;
@@ -111,7 +116,7 @@ impl<'f, 'a> Lowering<'f, 'a> {
     }
 
     /// What shifts two words side by side.
-    pub fn shifted_around(
+    pub(crate) fn shifted_around(
         &mut self,
         value: Option<ValueId>,
         width: u32,

@@ -62,7 +62,7 @@ pub struct Body<'a> {
 }
 
 /// Where a block leads.
-pub fn ways_out(end: End) -> [Option<BlockId>; 2] {
+pub(crate) fn ways_out(end: End) -> [Option<BlockId>; 2] {
     match end {
         End::Jump(to) => [Some(to), None],
         End::Fork(fork) => [Some(fork.yes), Some(fork.no)],
@@ -71,7 +71,7 @@ pub fn ways_out(end: End) -> [Option<BlockId>; 2] {
 }
 
 /// The name that the end of a block reads.
-pub fn read_at_end(end: End) -> Option<NameId> {
+pub(crate) fn read_at_end(end: End) -> Option<NameId> {
     match end {
         End::Jump(_) => None,
         End::Fork(fork) => Some(fork.pred),

@@ -122,7 +122,7 @@ fn rename_steps(
 }
 
 /// Puts a name in place of another one everywhere.
-pub fn rename(
+pub(crate) fn rename(
     alloc: Global,
     body: &mut Body<'_>,
     old: NameId,
@@ -200,7 +200,7 @@ fn unite(alloc: Global, body: &mut Body<'_>, pair: Pair) -> Result<(), NoMemory>
 }
 
 /// Makes one name of the names of each copy where they may be one.
-pub fn coalesce(alloc: Global, body: &mut Body<'_>) -> Result<(), NoMemory> {
+pub(crate) fn coalesce(alloc: Global, body: &mut Body<'_>) -> Result<(), NoMemory> {
     for _ in 0..body.names.len() {
         let clashes = clashes(alloc, body)?;
         let Some(pair) = next_pair(body, &clashes) else {

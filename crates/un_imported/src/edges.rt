@@ -161,7 +161,7 @@ impl<'a> Layout<'a> {
     }
 
     /// The blocks.
-    pub fn into_blocks(self) -> Vec<Block<'a>> {
+    pub(crate) fn into_blocks(self) -> Vec<Block<'a>> {
         let Layout { blocks, .. } = self;
         blocks
     }

@@ -20,7 +20,7 @@ pub struct Flow {
 
 impl Flow {
     /// The ways out of a block.
-    pub fn ways_of(&self, block: BlockId) -> &[Way] {
+    pub(crate) fn ways_of(&self, block: BlockId) -> &[Way] {
         match self.ways.get(block) {
             Some(ways) => ways.as_slice(),
             None => &[],

@@ -182,7 +182,7 @@ fn places(alloc: Global, order: &[BlockId], count: usize) -> Result<Vec<u64>, No
 }
 
 /// How often the blocks and ways of a function are taken.
-pub fn all_frequencies(
+pub(crate) fn all_frequencies(
     alloc: Global,
     flow: &Flow,
     order: &[BlockId],

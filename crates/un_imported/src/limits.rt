@@ -8,12 +8,12 @@ use un_ir::function::{BLOCKS, OPS};
 const ROOM: usize = 8;
 
 /// Whether so many blocks are too many to begin with.
-pub fn are_far_too_many(blocks: usize) -> bool {
+pub(crate) fn are_far_too_many(blocks: usize) -> bool {
     blocks > ROOM * BLOCKS as usize
 }
 
 /// Whether a function has too many operations to be made small enough.
-pub fn is_far_too_large(body: &Body<'_>) -> bool {
+pub(crate) fn is_far_too_large(body: &Body<'_>) -> bool {
     let mut ops: usize = 0;
     for block in &body.blocks {
         ops = ops.saturating_add(block.steps.len());
@@ -30,7 +30,7 @@ fn is_operation(line: &[u8]) -> bool {
 }
 
 /// Whether a function's text has more blocks or operations than the language allows.
-pub fn is_too_large(text: &[u8]) -> bool {
+pub(crate) fn is_too_large(text: &[u8]) -> bool {
     let mut blocks: u32 = 0;
     let mut ops: u32 = 0;
     for line in lines(text) {

@@ -97,7 +97,7 @@ fn loop_at(alloc: Global, flow: &Flow, header: BlockId) -> Result<Vec<bool>, NoM
 }
 
 /// How many loops each block stands in.
-pub fn depths(alloc: Global, flow: &Flow) -> Result<Vec<u32>, NoMemory> {
+pub(crate) fn depths(alloc: Global, flow: &Flow) -> Result<Vec<u32>, NoMemory> {
     let mut depths: Vec<u32> = Vec::new(alloc);
     for _ in 0..flow.ways.len() {
         push(&mut depths, 0)?;

@@ -76,7 +76,7 @@ pub struct Lowering<'f, 'a> {
 }
 
 /// The low 32 bits of a number, with their sign.
-pub fn low_word(number: i64) -> i32 {
+pub(crate) fn low_word(number: i64) -> i32 {
     let low = number.rem_euclid(0x1_0000_0000);
     let signed = if low >= 0x8000_0000 {
         low.saturating_sub(0x1_0000_0000)
@@ -96,7 +96,7 @@ fn within(number: i64, range: i64) -> i64 {
 }
 
 /// A number of so many bits without or with its sign, as one of 32 bits with its sign.
-pub fn number_of_width(number: i64, width: u32, signed: bool) -> i64 {
+pub(crate) fn number_of_width(number: i64, width: u32, signed: bool) -> i64 {
     let mut range: i64 = 1;
     for _ in 0..width.min(32) {
         range = range.saturating_mul(2);
@@ -144,14 +144,14 @@ impl<'f, 'a> Lowering<'f, 'a> {
     }
 
     /// The operations made since the last time, and none from now on.
-    pub fn take_steps(&mut self) -> Vec<Step<'a>> {
+    pub(crate) fn take_steps(&mut self) -> Vec<Step<'a>> {
         self.forget_numbers();
         self.multiples = Vec::new(self.alloc);
         std::mem::replace(&mut self.steps, Vec::new(self.alloc))
     }
 
     /// Makes each number anew from now on.
-    pub fn forget_numbers(&mut self) {
+    pub(crate) fn forget_numbers(&mut self) {
         self.loaded = Vec::new(self.alloc);
     }
 
@@ -166,12 +166,17 @@ impl<'f, 'a> Lowering<'f, 'a> {
     }
 
     /// Says that a multiple of a word stands in a name.
-    pub fn keep_multiple(&mut self, of: NameId, bytes: u32, name: NameId) -> Result<(), NoMemory> {
+    pub(crate) fn keep_multiple(
+        &mut self,
+        of: NameId,
+        bytes: u32,
+        name: NameId,
+    ) -> Result<(), NoMemory> {
         push(&mut self.multiples, Multiple { of, bytes, name })
     }
 
     /// The names.
-    pub fn into_names(self) -> Names<'a> {
+    pub(crate) fn into_names(self) -> Names<'a> {
         let Lowering { names, .. } = self;
         names
     }
@@ -191,7 +196,11 @@ impl<'f, 'a> Lowering<'f, 'a> {
     }
 
     /// A name that is called as a value of LLVM's.
-    pub fn name_for(&mut self, value: Option<ValueId>, kind: Kind) -> Result<NameId, NoMemory> {
+    pub(crate) fn name_for(
+        &mut self,
+        value: Option<ValueId>,
+        kind: Kind,
+    ) -> Result<NameId, NoMemory> {
         let text = match value {
             Some(value) => self.function.names.get(value).copied().unwrap_or(b""),
             None => b"",
@@ -330,7 +339,7 @@ impl<'f, 'a> Lowering<'f, 'a> {
     }
 
     /// The predicate in which a truth value stands, where it does.
-    pub fn truth_held(&self, operand: &Operand<'a>) -> Option<Truth> {
+    pub(crate) fn truth_held(&self, operand: &Operand<'a>) -> Option<Truth> {
         match operand {
             Operand::Name(value) => match self.held(*value) {
                 Held::Truth { pred, negated } => Some(Truth { pred, negated }),

@@ -90,7 +90,7 @@ fn unite(alloc: Global, body: &mut Body<'_>, group: &Group) -> Result<(), NoMemo
 }
 
 /// Uses names again where there are more than the language allows.
-pub fn reuse(alloc: Global, body: &mut Body<'_>) -> Result<(), NoMemory> {
+pub(crate) fn reuse(alloc: Global, body: &mut Body<'_>) -> Result<(), NoMemory> {
     let names = used(alloc, body)?;
     if names.len() <= NAMES as usize {
         return Ok(());

@@ -34,7 +34,7 @@ fn needed<'a>(alloc: Global, live: &mut Live, block: &mut Block<'a>) -> Result<b
 }
 
 /// Takes out the operations whose results nothing needs.
-pub fn drop_idle(alloc: Global, body: &mut Body<'_>) -> Result<(), NoMemory> {
+pub(crate) fn drop_idle(alloc: Global, body: &mut Body<'_>) -> Result<(), NoMemory> {
     for _ in 0..body.names.len() {
         let mut live = live_names(alloc, body)?;
         let mut changed = false;
@@ -312,7 +312,7 @@ fn do_early(alloc: Global, body: &mut Body<'_>, early: Early) -> Result<(), NoMe
 }
 
 /// Does what ways copy before the ways are chosen, where that harms nothing.
-pub fn hoist(alloc: Global, body: &mut Body<'_>) -> Result<(), NoMemory> {
+pub(crate) fn hoist(alloc: Global, body: &mut Body<'_>) -> Result<(), NoMemory> {
     for _ in 0..body.blocks.len() {
         let live = live_names(alloc, body)?;
         let Some(early) = next_early(body, &live) else {

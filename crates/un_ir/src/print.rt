@@ -13,8 +13,11 @@ use un_base::memory_error::NoMemory;
 use un_base::name::Name;
 use un_isa::facts::{Range, literal_range, source_name};
 
-/// Appends a name with its sigil.
-fn put_name(out: &mut Vec<u8>, names: &[(Name, Kind)], name: NameId) -> Result<(), NoMemory>
+/// Appends a name with its sigil, nothing where there is no such name.
+///
+/// # Errors
+/// Where there is no memory for the text.
+pub fn put_name(out: &mut Vec<u8>, names: &[(Name, Kind)], name: NameId) -> Result<(), NoMemory>
     ensures { OnOk result (out.new.items ≡ out.old.items ++ name_text names.now name) }
 {
     match names.get(name.0 as usize) {

@@ -8,8 +8,8 @@ use Rattle.std.proofs.lemmas.Fmt.{decimal_injective}
 use Rattle.un_base.specs.declared.ids.VarId.{VarId}
 use Rattle.un_base.specs.Lines.{pieces_of}
 use Rattle.un_base.proofs.LineLaws.{pieces_of-line, pieces_of-last}
-use Rattle.un_tree.specs.Texts.{IsCut}
-use Rattle.un_tree.proofs.Cuts.{cut_once, cut_none, cut_parts}
+use Rattle.un_base.specs.Lines.{IsCut}
+use Rattle.un_base.proofs.Cuts.{cut_once, cut_none, cut_parts}
 use Rattle.un_tree.proofs.NodeLines.{digits_apart}
 use Rattle.un_walk.proofs.Paths.{last_once}
 use Rattle.un_steps.specs.declared.step.Rule.{Rule}

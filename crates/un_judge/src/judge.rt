@@ -75,10 +75,7 @@ fn lines_of(r: &Rules<'_>, walk: &mut Walk<'_>, node: Node) -> Result<Option<Ste
 {
     match node {
         Node::Branch { .. } => Ok(None),
-        Node::Closed => {
-            let told = close_here(r, walk)?;
-            Ok(told)
-        }
+        Node::Closed => { close_here(r, walk) }
         Node::Open => Ok(None),
     }
 }

@@ -5,9 +5,10 @@ ghost use Rattle.un_judge.specs.Lines.{rule_number, numbered, step_text, Fits, S
 ghost use Rattle.un_steps.specs.declared.step.Rule.{Rule};
 ghost use Rattle.un_steps.specs.declared.step.Step.{Step};
 
+use un_base::decimal::number_of;
 use un_base::ids::VarId;
+use un_base::lines::cut;
 use un_steps::step::{Rule, Step};
-use un_tree::line::{cut, number_of};
 
 /// A line of a log.
 #[derive(Clone, Copy)]

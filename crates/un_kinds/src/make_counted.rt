@@ -38,6 +38,5 @@ pub fn counted_below(alloc: Global, p: &Counted, limit: u64) -> Result<AnyProp, 
     ensures { IfOk result (Makes (constraint.Counted p.now.rows limit)) }
 {
     let rows = p.rows.clone()?;
-    let made = make_counted(alloc, rows, limit)?;
-    Ok(made)
+    make_counted(alloc, rows, limit)
 }

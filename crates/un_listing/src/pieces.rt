@@ -20,7 +20,7 @@ pub fn put_literal(out: &mut Vec<u8>, instr: &Instr) -> Result<(), NoMemory>
 }
 
 /// Appends a register.
-pub fn put_reg(out: &mut Vec<u8>, reg: Reg) -> Result<(), NoMemory>
+pub(crate) fn put_reg(out: &mut Vec<u8>, reg: Reg) -> Result<(), NoMemory>
     ensures { OnOk result (out.new.items ≡ out.old.items ++ reg_text reg) }
 {
     if reg.0 < GENERALS {
@@ -33,7 +33,7 @@ pub fn put_reg(out: &mut Vec<u8>, reg: Reg) -> Result<(), NoMemory>
 }
 
 /// Appends a register, where there is one.
-pub fn put_some_reg(out: &mut Vec<u8>, reg: Option<Reg>) -> Result<(), NoMemory>
+pub(crate) fn put_some_reg(out: &mut Vec<u8>, reg: Option<Reg>) -> Result<(), NoMemory>
     ensures { OnOk result (out.new.items ≡ out.old.items ++ some_reg_text reg) }
 {
     match reg {
@@ -112,7 +112,7 @@ pub fn put_word(out: &mut Vec<u8>, instr: &Instr) -> Result<(), NoMemory>
 }
 
 /// Appends the word at the stack pointer with the offset of the instruction.
-pub fn put_frame_word(out: &mut Vec<u8>, instr: &Instr) -> Result<(), NoMemory>
+pub(crate) fn put_frame_word(out: &mut Vec<u8>, instr: &Instr) -> Result<(), NoMemory>
     ensures { OnOk result (out.new.items ≡ out.old.items ++ word_text (codes "r29") instr.now) }
 {
     put_text(out, b"memw(r29")?;

@@ -39,7 +39,7 @@ fn register_in(base: u32, count: u32, n: Number) -> Option<Reg>
 }
 
 /// The register that the bytes spell.
-pub fn read_reg(bytes: &[u8]) -> Option<Reg>
+pub(crate) fn read_reg(bytes: &[u8]) -> Option<Reg>
     ensures { result ≡ reg_of bytes.now }
 {
     let (first, rest) = bytes.split_first()?;
@@ -51,7 +51,7 @@ pub fn read_reg(bytes: &[u8]) -> Option<Reg>
 }
 
 /// The register that the bytes spell with `.new` behind it.
-pub fn read_fresh(bytes: &[u8]) -> Option<Reg>
+pub(crate) fn read_fresh(bytes: &[u8]) -> Option<Reg>
     ensures { result ≡ fresh_of bytes.now }
 {
     if !bytes.ends_with(b".new") {

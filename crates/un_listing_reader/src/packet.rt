@@ -106,7 +106,7 @@ fn by_rules(alloc: Global, frame: u32, packet: Packet) -> Result<PacketRead, NoM
 ///
 /// # Errors
 /// `NoMemory` where there is no memory for the packet or for what it is compared with.
-pub fn read_packet(alloc: Global, frame: u32, line: &[u8]) -> Result<PacketRead, NoMemory>
+pub(crate) fn read_packet(alloc: Global, frame: u32, line: &[u8]) -> Result<PacketRead, NoMemory>
     requires { frame ≤ FRAME }
     ensures read { IfOk result (IsPacketReadAs frame line.now) }
     ensures whole { (p : Packet) → IsPacketLine frame line.now p → IfOk result (λ r. r ≡ PacketRead.Good p) }

@@ -313,7 +313,7 @@ fn are_distinct(numbers: &[u32]) -> bool
 /// # Errors
 /// `NoMemory` where there is no memory for the list of the registers that they write.
 #[tactic(auto, using(crate::proofs::NeedLaws::distinct_decides))]
-pub fn is_good_packet(alloc: Global, frame: u32, packet: &Packet) -> Result<bool, NoMemory>
+pub(crate) fn is_good_packet(alloc: Global, frame: u32, packet: &Packet) -> Result<bool, NoMemory>
     requires { frame ≤ FRAME }
     ensures { IfOk result (λ good. IsTrue good ↔ (IsGoodPacket frame packet.now)) }
 {

@@ -66,8 +66,7 @@ pub fn columns_of(
     ensures { IfOk result (λ columns. AreColumns blocks.now names columns) }
 {
     let tables = block_tables(alloc, blocks, names)?;
-    let columns = columns(alloc, blocks, &tables, names)?;
-    Ok(columns)
+    columns(alloc, blocks, &tables, names)
 }
 
 /// Adds the name with this number, where block `b` is marked.

@@ -97,7 +97,7 @@ fn push_table(
 }
 
 /// What each block does first to each of so many names.
-pub fn block_tables(
+pub(crate) fn block_tables(
     alloc: Global,
     blocks: &[Block],
     names: usize,

@@ -33,7 +33,7 @@ impl<'t, 'a> Cursor<'t, 'a> {
     }
 
     /// Takes this mark, where it is next.
-    pub fn takes_mark(&mut self, mark: u8) -> bool {
+    pub(crate) fn takes_mark(&mut self, mark: u8) -> bool {
         match self.peek() {
             Some(Token::Mark(b)) if b == mark => {
                 self.taken = self.taken.saturating_add(1);
@@ -44,7 +44,7 @@ impl<'t, 'a> Cursor<'t, 'a> {
     }
 
     /// Takes this word, where it is next.
-    pub fn takes_word(&mut self, word: &[u8]) -> bool {
+    pub(crate) fn takes_word(&mut self, word: &[u8]) -> bool {
         match self.peek() {
             Some(Token::Word(next)) if next == word => {
                 self.taken = self.taken.saturating_add(1);
@@ -55,7 +55,7 @@ impl<'t, 'a> Cursor<'t, 'a> {
     }
 
     /// Takes words as long as they are among these.
-    pub fn skip_words(&mut self, words: &[&[u8]]) {
+    pub(crate) fn skip_words(&mut self, words: &[&[u8]]) {
         for _ in 0..self.left() {
             let before = self.left();
             for word in words {
@@ -77,7 +77,7 @@ impl<'t, 'a> Cursor<'t, 'a> {
     }
 
     /// What is missing at this line, about a word.
-    pub fn lacks_word(&self, missing: Missing, word: &'a [u8]) -> Refusal<'a> {
+    pub(crate) fn lacks_word(&self, missing: Missing, word: &'a [u8]) -> Refusal<'a> {
         Refusal::Lacks {
             line: self.line,
             missing,
@@ -120,7 +120,7 @@ impl<'t, 'a> Cursor<'t, 'a> {
     }
 
     /// Takes all up to the bracket that closes one that was taken last.
-    pub fn skip_parentheses(&mut self) {
+    pub(crate) fn skip_parentheses(&mut self) {
         let mut open: u32 = 1;
         for _ in 0..self.left() {
             match self.take() {

@@ -66,7 +66,7 @@ fn skip_measured(cursor: &mut Cursor<'_, '_>) {
 }
 
 /// The number behind the word `align`, in brackets or not, where that word is next.
-pub fn alignment(cursor: &mut Cursor<'_, '_>) -> Option<u32> {
+pub(crate) fn alignment(cursor: &mut Cursor<'_, '_>) -> Option<u32> {
     if !cursor.takes_word(b"align") {
         return None;
     }
@@ -82,7 +82,7 @@ pub fn alignment(cursor: &mut Cursor<'_, '_>) -> Option<u32> {
 }
 
 /// Takes all that stands before a value.
-pub fn attributes(cursor: &mut Cursor<'_, '_>) -> Told {
+pub(crate) fn attributes(cursor: &mut Cursor<'_, '_>) -> Told {
     let mut found = Told {
         signed: false,
         align: 1,
@@ -180,7 +180,7 @@ impl<'a> Scope<'a> {
     }
 
     /// A type and a value of it: how many bits it has, and the value.
-    pub fn typed(
+    pub(crate) fn typed(
         &mut self,
         cursor: &mut Cursor<'_, 'a>,
     ) -> Result<(u32, Operand<'a>), Refusal<'a>> {

@@ -104,7 +104,7 @@ impl<'a> Statements<'a> {
 }
 
 /// The statements of a text.
-pub fn read_statements(alloc: Global, text: &[u8]) -> Result<Statements<'_>, NoMemory> {
+pub(crate) fn read_statements(alloc: Global, text: &[u8]) -> Result<Statements<'_>, NoMemory> {
     let mut found = Statements {
         tokens: Vec::new(alloc),
         spans: Vec::new(alloc),

@@ -152,7 +152,7 @@ fn first_of<'a>(first: u8, rest: &'a [u8], text: &'a [u8]) -> Cut<'a> {
 }
 
 /// The first token of a text; none at its end and before a comment.
-pub fn first_token(text: &[u8]) -> Option<Cut<'_>> {
+pub(crate) fn first_token(text: &[u8]) -> Option<Cut<'_>> {
     let text = behind_blanks(text);
     match text.split_first() {
         None | Some((b';', _)) => None,

@@ -342,7 +342,7 @@ impl<'a> Types<'a> {
     ///
     /// # Errors
     /// `Type` where there are no such values.
-    pub fn read_width(&mut self, cursor: &mut Cursor<'_, 'a>) -> Result<u32, Refusal<'a>> {
+    pub(crate) fn read_width(&mut self, cursor: &mut Cursor<'_, 'a>) -> Result<u32, Refusal<'a>> {
         let about = match cursor.peek() {
             Some(Token::Word(word)) => word,
             _ => b"",

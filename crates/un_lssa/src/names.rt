@@ -14,7 +14,7 @@ use un_ir::function::Term;
 use un_lists::items::Items;
 
 /// The temporary of a name, 0 where it has none.
-pub fn current_temp(current: &[u32], name: NameId) -> u32
+pub(crate) fn current_temp(current: &[u32], name: NameId) -> u32
     ensures { result ≡ slice_index current.now name.0 }
 {
     current.get(name.0 as usize).copied().unwrap_or(0)

@@ -190,7 +190,7 @@ fn push_body_op(
 /// The operations of the source behind those so far, and the first temporary that they do not define. The first of them
 /// may define temporary `first`; `current` has the temporary of each name.
 #[tactic(auto, using(crate::proofs::Operands::past_all_grows))]
-pub fn push_body(
+pub(crate) fn push_body(
     alloc: Global,
     t: &Table,
     ops: &mut Items<ExtOp>,
@@ -215,7 +215,12 @@ pub fn push_body(
 }
 
 /// The values at a block's start, behind the operations so far.
-pub fn push_in(alloc: Global, ops: &mut Items<ExtOp>, n: u32, count: u32) -> Result<(), NoMemory>
+pub(crate) fn push_in(
+    alloc: Global,
+    ops: &mut Items<ExtOp>,
+    n: u32,
+    count: u32,
+) -> Result<(), NoMemory>
     requires { n + count < 2 ^ 32 }
     ensures { OnOk result (ops.new ≡ ops.old ++ in_op n count ∷ []) }
 {
@@ -341,7 +346,7 @@ fn out_operands(
 }
 
 /// The values at a block's end, behind the operations so far.
-pub fn push_out(
+pub(crate) fn push_out(
     alloc: Global,
     t: &Table,
     registers: &[u32],

@@ -62,8 +62,7 @@ fn first_store(alloc: Global, m: &Model) -> Result<Store, NoMemory>
 {
     number(m.domains.len())?;
     let same = copy_domains(alloc, m.domains.as_slice())?;
-    let store = Store::new(alloc, same)?;
-    Ok(store)
+    Store::new(alloc, same)
 }
 
 /// Before the first node.

@@ -35,8 +35,8 @@ use Rattle.un_model.specs.Arcs.NeedsGap.{ByData, ByMemory}
 use Rattle.un_model.proofs.Operations.{placed_get}
 use Rattle.un_model.proofs.Gaps.{gap_copy, gap_within}
 use Rattle.un_model.specs.Instructions.{instruction_of, latency_by}
-use Rattle.un_model.proofs.Lists.{Member, any_of, place_of, member_at, member_append_left, member_append_right, index_get, length_get}
-use Rattle.un_model.proofs.Lists.{slice_get-map}
+use Rattle.un_lists.proofs.Lists.{Member, any_of, place_of, member_at, member_append_left, member_append_right, index_get, length_get}
+use Rattle.un_lists.proofs.Lists.{slice_get-map}
 use Rattle.un_model.proofs.PlacedSchedules.{all, spots, issue_here, one_spot, definer_in, range_at, range_here, spot_range, spot_temp}
 use Rattle.un_model.specs.Options.{AreOptions}
 use Rattle.un_model.proofs.Placed.{Placed, Region, region_placed, blocks_placed, block_placed, issue_at, vars_of, Spot, temp_vars}

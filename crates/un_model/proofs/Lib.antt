@@ -6,7 +6,6 @@ pub mod Copies
 pub mod Numbering
 pub mod HomeSteps
 pub mod HomeMarks
-pub mod Lists
 pub mod OpDomains
 pub mod PlacedSchedules
 pub mod Operations

@@ -22,7 +22,7 @@ use Rattle.un_ir.specs.Kinds.{is_optional}
 use Rattle.un_model.specs.Variables.{var_count, var_at, ops_count, block_count, count_if, has_cycle, chosen_operands}
 use Rattle.un_model.specs.Variables.{register_place, choice_place, instr_domain, cycle_domain, choice_domain, carries_truth, result_domain}
 use Rattle.un_model.specs.Variables.{op_domains, ops_domains, block_domains, blocks_domains, own_horizon, domains_of, blocks_count}
-use Rattle.un_model.proofs.Lists.{Each, each_join}
+use Rattle.un_lists.proofs.Lists.{Each, each_join}
 use Rattle.un_model.proofs.Placed.{Placed, placed, block_placed, blocks_placed, end_of}
 
 -- the values from place k on are in these domains

@@ -9,8 +9,8 @@ use Rattle.un_ir.specs.declared.extended.ExtBlock.{ExtBlock}
 use Rattle.un_ir.specs.declared.extended.Ext.{Ext}
 use Rattle.un_ir.specs.Extended.{results_of, AreGoodBlocks, IsGoodExtBlock, IsGoodExtOp}
 use Rattle.un_model.specs.Variables.{var_at, var_count, ops_count, block_count}
-use Rattle.un_model.proofs.Lists.{Each, Member, each_of, each_all, each_join, member_append_left, member_append_right, member_map}
-use Rattle.un_model.proofs.Lists.{member_at, place_of}
+use Rattle.un_lists.proofs.Lists.{Each, Member, each_of, each_all, each_join, member_append_left, member_append_right, member_map}
+use Rattle.un_lists.proofs.Lists.{member_at, place_of}
 use Rattle.un_model.proofs.Placed.{Placed, placed, block_placed, blocks_placed, Spot, spot, spots_of, all_spots}
 use Rattle.un_model.proofs.PlacedSchedules.{member_joined, member_places}
 

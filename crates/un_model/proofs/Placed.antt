@@ -17,7 +17,7 @@ use Rattle.un_model.specs.Pairs.{places_from, pairs_from, joined, over_blocks}
 use Rattle.un_model.specs.Schedules.{issue_of, block_issues, reads_at as op_reads, block_reads}
 use Rattle.un_model.specs.Variables.{op_vars, ops_vars, var_count, var_at, ops_count, block_count, blocks_vars, carried, ops_temps}
 use Rattle.un_model.specs.Variables.{blocks_temps, register_place}
-use Rattle.un_model.proofs.Lists.{Member, map-append}
+use Rattle.un_lists.proofs.Lists.{Member, map-append}
 
 -- an operation with the number of its block, that block and the variable of its end, its own number and that of its first variable
 pub record Placed : Type 0 where

@@ -20,9 +20,9 @@ use Rattle.un_model.specs.Pairs.{places_from, joined}
 use Rattle.un_model.specs.Schedules.{issues_of, reads_of, read_of, range_by, range_of, ranges_of, last_read, cycle_for, schedule_of}
 use Rattle.un_model.specs.Solutions.{IsSchedule, IsLive, InSpace, ReadsInSpace, LeavesGap, latency_gap, HasHome, ReadsHome, IsGivenInSpace}
 use Rattle.un_model.specs.Variables.{model_of, var_at, register_place}
-use Rattle.un_model.proofs.Lists.{Each, Pairwise, Member, each_member, each_all, each_of_map, pairwise_all, pairwise_of_map, member_map}
-use Rattle.un_model.proofs.Lists.{member_append_left, member_append_right, place_of, member_at, slice_get-map, get_below, index_get}
-use Rattle.un_model.proofs.Lists.{length_get}
+use Rattle.un_lists.proofs.Lists.{Each, Pairwise, Member, each_member, each_all, each_of_map, pairwise_all, pairwise_of_map, member_map}
+use Rattle.un_lists.proofs.Lists.{member_append_left, member_append_right, place_of, member_at, slice_get-map, get_below, index_get}
+use Rattle.un_lists.proofs.Lists.{length_get}
 use Rattle.un_model.proofs.Placed.{Placed, blocks_placed, vars_of, issue_at, reads_at, Spot, spot, spots_of, all_spots, temp_vars}
 use Rattle.un_model.proofs.Placed.{issues_are, reads_are, temps_are, results_are, all_count, at_number}
 use Rattle.un_model.proofs.OpDomains.{get_places}

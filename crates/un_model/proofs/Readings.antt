@@ -30,7 +30,7 @@ use Rattle.un_model.specs.Schedules.{choice_of, value_by, read_of, schedule_of}
 use Rattle.un_model.specs.Solutions.{IsSchedule, latency_gap, InSpace, HasHome}
 use Rattle.un_ir.specs.Kinds.{has_choices}
 use Rattle.un_model.specs.Variables.{model_of, var_at, choice_place, chosen_operands, domains_of, own_horizon}
-use Rattle.un_model.proofs.Lists.{Each, Member, each_member, each_of, each_all, member_at, get_below, slice_get-map, length_get}
+use Rattle.un_lists.proofs.Lists.{Each, Member, each_member, each_of, each_all, member_at, get_below, slice_get-map, length_get}
 use Rattle.un_model.proofs.Placed.{Placed, vars_of, issue_at, Spot, temp_vars, temps_are}
 use Rattle.un_model.proofs.OpDomains.{InDomains, in_entry, keeps_sits, sits_left, all_sit, choice_sits}
 use Rattle.un_model.proofs.PlacedSchedules.{all, spots, range_at, spot_range, has_read, spot_here, range_here, one_spot, good_read}

@@ -21,11 +21,11 @@ use Rattle.un_model.specs.Pairs.{places_from, joined}
 use Rattle.un_ir.specs.Kinds.{is_delimiter}
 use Rattle.un_model.specs.Schedules.{reads_of, read_of, value_by}
 use Rattle.un_model.specs.Variables.{model_of}
-use Rattle.un_model.proofs.Lists.{Each, Member, each_of, each_member, map-append, member_append_left, member_append_right, member_at}
+use Rattle.un_lists.proofs.Lists.{Each, Member, each_of, each_member, map-append, member_append_left, member_append_right, member_at}
 use Rattle.un_model.proofs.OpDomains.{get_places}
 use Rattle.un_model.proofs.Placed.{Placed, vars_of, issue_at, reads_at, reads_are, Region, region_placed}
 use Rattle.un_model.proofs.PlacedSchedules.{all, member_joined}
-use Rattle.un_model.proofs.Lists.{member_map}
+use Rattle.un_lists.proofs.Lists.{member_map}
 use Rattle.un_model.proofs.Operations.{GoodPlaced, all_good}
 use Rattle.un_model.proofs.Readings.{all_member}
 use Rattle.un_model.proofs.Regions.{regions, placed_regions, region_is, of_region, Ended, ended, last_of, front_of, region_parts}

@@ -15,7 +15,7 @@ use Rattle.un_ir.specs.Extended.{is_copy, is_end, is_inner, AllAre, IsGoodExtBlo
 use Rattle.un_model.specs.declared.model.BlockVars.{BlockVars}
 use Rattle.un_model.specs.Pairs.{joined, over_blocks}
 use Rattle.un_model.specs.Variables.{var_at, var_count, ops_count, block_count, block_vars, blocks_vars}
-use Rattle.un_model.proofs.Lists.{Each, Member, each_all, each_join, each_more, place_of as position_of}
+use Rattle.un_lists.proofs.Lists.{Each, Member, each_all, each_join, each_more, place_of as position_of}
 use Rattle.un_model.proofs.Operations.{placed_is}
 use Rattle.un_model.proofs.Placed.{Placed, placed, blocks_placed, Region, region_placed}
 

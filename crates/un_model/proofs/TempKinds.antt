@@ -17,7 +17,7 @@ use Rattle.un_ir.specs.Extended.{all_results, temp, carried, carried_by, all_car
 use Rattle.un_model.specs.declared.model.Options.{Options}
 use Rattle.un_model.specs.Pairs.{places_from}
 use Rattle.un_model.specs.Variables.{var_at, var_count, ops_count, block_count}
-use Rattle.un_model.proofs.Lists.{Each, Member, each_append, map-append, slice_get-map}
+use Rattle.un_lists.proofs.Lists.{Each, Member, each_append, map-append, slice_get-map}
 use Rattle.un_model.proofs.Placed.{Placed, placed, block_placed, blocks_placed, Spot, spot, spots_of, all_spots, joined_map-append}
 use Rattle.un_model.proofs.PlacedSchedules.{spots, spot_here}
 

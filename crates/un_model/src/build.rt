@@ -282,8 +282,7 @@ fn add_scoped(
         is_entry,
         block,
     };
-    let vars = add_block(alloc, domains, temps, &scope, first)?;
-    Ok(vars)
+    add_block(alloc, domains, temps, &scope, first)
 }
 
 /// The variables of all blocks.

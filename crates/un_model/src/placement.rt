@@ -34,7 +34,7 @@ pub fn optional_value(values: &[u32], v: Option<VarId>) -> u32
 }
 
 /// The cycle of an operation in a block with this end.
-fn cycle(values: &[u32], end: u32, kind: &ExtKind, vars: &OpVars) -> u32
+pub fn cycle(values: &[u32], end: u32, kind: &ExtKind, vars: &OpVars) -> u32
     ensures { result ≡ cycle_by values.now end kind.now vars.now }
 {
     match kind {

@@ -1,35 +1,11 @@
 //! Pieces of the lines of an outcome. Each function appends one to a text, and there is `NoMemory` where it finds no room.
 
 ghost use Rattle.std.specs.Prelude.{◌≡◌, ◌++◌, OnOk, codes, decimal};
-ghost use Rattle.un_ir.specs.Text.{name_text};
 ghost use Rattle.un_outcome.specs.Outcomes.{spaced_numbers, number_behind, call_text};
 
-use un_base::ids::NameId;
 use un_base::memory_error::NoMemory;
-use un_base::name::Name;
-use un_ir::function::Kind;
 use un_ir::text::{put_number, put_text};
 use un_isa::outcome::CallRecord;
-
-/// Appends a name with its sigil.
-pub(crate) fn put_name(
-    out: &mut Vec<u8>,
-    names: &[(Name, Kind)],
-    name: NameId,
-) -> Result<(), NoMemory>
-    ensures { OnOk result (out.new.items ≡ out.old.items ++ name_text names.now name) }
-{
-    match names.get(name.0 as usize) {
-        None => Ok(()),
-        Some((name, kind)) => {
-            match kind {
-                Kind::General => put_text(out, b"%")?,
-                Kind::Pred => put_text(out, b"$")?,
-            }
-            put_text(out, name.as_bytes())
-        }
-    }
-}
 
 /// Appends a space and a number.
 pub(crate) fn put_next(out: &mut Vec<u8>, n: u32) -> Result<(), NoMemory>

@@ -4,12 +4,13 @@ ghost use Rattle.std.specs.Prelude.{◌≡◌, ◌++◌, ◌∷◌, [], map, OnO
 ghost use Rattle.un_base.specs.Lines.{joined_lines};
 ghost use Rattle.un_outcome.specs.Outcomes.{call_text, returned_line, value_line, end_lines, call_line, word_line, cycle_lines, outcome_text};
 
-use crate::pieces::{put_behind, put_call, put_name, put_next};
+use crate::pieces::{put_behind, put_call, put_next};
 use std::alloc::Global;
 use un_base::ids::NameId;
 use un_base::memory_error::NoMemory;
 use un_base::name::Name;
 use un_ir::function::Kind;
+use un_ir::print::put_name;
 use un_ir::text::{put_number, put_text};
 use un_isa::outcome::{CallRecord, End, Outcome};
 

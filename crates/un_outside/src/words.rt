@@ -70,7 +70,7 @@ pub fn push_word(alloc: Global, words: &mut Vec<Word>, text: &str) -> Result<(),
 ///
 /// # Errors
 /// `NoMemory` where there is no memory for them.
-pub fn words_among(alloc: Global, texts: Args) -> Result<Vec<Word>, NoMemory>
+pub(crate) fn words_among(alloc: Global, texts: Args) -> Result<Vec<Word>, NoMemory>
     ensures { IfOk result (λ words. words.items ≡ map string_bytes (drop 1 (into_iter_items texts))) }
 {
     let mut rest = texts;

@@ -1,12 +1,12 @@
 //! The names live at each block's start.
 
-use crate::pieces::put_name;
 use std::alloc::Global;
 use un_base::ids::NameId;
 use un_base::memory_error::NoMemory;
 use un_base::name::Name;
 use un_ir::extended::LiveSets;
 use un_ir::function::{Block, Function, Kind};
+use un_ir::print::put_name;
 use un_ir::text::put_text;
 
 /// Appends the line of a block: its label, and the names live at its start.

@@ -31,7 +31,7 @@ use Rattle.un_model.specs.Schedules.{schedule_of, issues_of, value_by}
 use Rattle.un_model.specs.Solutions.{IsSchedule, IsPlaced, IsPlacedAs, Precedes, HasFrame, is_frame_access, frame_distance, latency_gap}
 use Rattle.un_model.specs.Solutions.{share_of, issues_at}
 use Rattle.un_model.specs.Variables.{model_of}
-use Rattle.un_model.proofs.Lists.{Each, Member, each_member, each_of, each_all, each_more, member_at}
+use Rattle.un_lists.proofs.Lists.{Each, Member, each_member, each_of, each_all, each_more, member_at}
 use Rattle.un_model.proofs.Placed.{Placed, vars_of, issue_at}
 use Rattle.un_model.proofs.PlacedSchedules.{issue_here}
 use Rattle.un_press.specs.Accesses.{is_spill, is_reload, spills_by, reloads_after, Spills, Reloads}

@@ -7,7 +7,7 @@ use Rattle.un_ir.specs.declared.extended.Ext.{Ext}
 use Rattle.un_model.specs.declared.model.Options.{Options}
 use Rattle.un_model.specs.Pairs.{places_from, joined}
 use Rattle.un_model.specs.Variables.{model_of}
-use Rattle.un_model.proofs.Lists.{Each, Member, map-append, member_map}
+use Rattle.un_lists.proofs.Lists.{Each, Member, map-append, member_map}
 use Rattle.un_model.proofs.Placed.{Placed, Region, region_placed, Spot, spot, spots_of, all_spots}
 use Rattle.un_model.proofs.PlacedSchedules.{spots, spot_range, joined_member, places_member, member_joined}
 use Rattle.un_prop.specs.declared.act.Temp.{Temp}

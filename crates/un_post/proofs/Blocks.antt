@@ -8,7 +8,7 @@ use Rattle.un_model.specs.declared.model.BlockVars.{BlockVars}
 use Rattle.un_model.specs.declared.model.Options.{Options}
 use Rattle.un_model.specs.Pairs.{pairs_from, joined, over_blocks}
 use Rattle.un_model.specs.Variables.{op_vars, ops_vars, var_count, var_at, ops_count, block_count, block_vars, blocks_vars}
-use Rattle.un_model.proofs.Lists.{Each, Pairwise, Member, each_of, each_member, member_map, pairwise_two, place_of as position_of}
+use Rattle.un_lists.proofs.Lists.{Each, Pairwise, Member, each_of, each_member, member_map, pairwise_two, place_of as position_of}
 use Rattle.un_model.proofs.Operations.{placed_is}
 use Rattle.un_model.proofs.Placed.{Placed, placed, Region, region_placed}
 use Rattle.un_model.proofs.PlacedSchedules.{all, member_joined, joined_member}

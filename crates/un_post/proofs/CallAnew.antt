@@ -35,7 +35,7 @@ use Rattle.un_model.specs.Instructions.{instruction_of, frame_instr, latency_by,
 use Rattle.un_model.specs.Schedules.{schedule_of, issues_of, value_by}
 use Rattle.un_model.specs.Solutions.{IsSchedule, latency_gap, least_wait, InDomain, InSpace, HasHome, SparesRange, IsSpared}
 use Rattle.un_model.specs.Variables.{model_of, register_domain, source_domain, carried}
-use Rattle.un_model.proofs.Lists.{Member, each_member, member_map}
+use Rattle.un_lists.proofs.Lists.{Member, each_member, member_map}
 use Rattle.un_model.proofs.OpDomains.{in_entry, register_sits}
 use Rattle.un_model.proofs.Placed.{Placed, Region, region_placed, vars_of, issue_at, Spot, all_count, at_number}
 use Rattle.un_model.proofs.PlacedSchedules.{all, spots, spot_range, range_at, range_here}

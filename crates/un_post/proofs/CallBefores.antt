@@ -21,7 +21,7 @@ use Rattle.un_model.specs.Schedules.{schedule_of}
 use Rattle.un_model.specs.Instructions.{instruction_of}
 use Rattle.un_model.specs.Solutions.{IsSchedule, IsSolution, latency_gap, least_wait}
 use Rattle.un_model.specs.Variables.{IsModel, model_of, arcs_of}
-use Rattle.un_model.proofs.Lists.{Each, Member, each_of, each_join, member_map_of, member_of_filter, member_at}
+use Rattle.un_lists.proofs.Lists.{Each, Member, each_of, each_join, member_map_of, member_of_filter, member_at}
 use Rattle.un_model.proofs.Placed.{Placed, Region, region_placed, issue_at}
 use Rattle.un_prop.specs.Acts.{at_value}
 use Rattle.un_prop.specs.declared.act.Act.TheVariants.{Always}

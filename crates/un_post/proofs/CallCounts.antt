@@ -26,7 +26,7 @@ use Rattle.un_model.proofs.Gaps.{call_waits}
 use Rattle.un_model.specs.Schedules.{schedule_of, issues_of, value_by, cycle_by}
 use Rattle.un_model.specs.Solutions.{IsSchedule, latency_gap, share_of}
 use Rattle.un_model.specs.Variables.{model_of, count_if}
-use Rattle.un_model.proofs.Lists.{Each, Pairwise, Member, each_of, each_more, each_member, length_get}
+use Rattle.un_lists.proofs.Lists.{Each, Pairwise, Member, each_of, each_more, each_member, length_get}
 use Rattle.un_model.proofs.Placed.{Placed, Region, region_placed, vars_of, issue_at, Spot, all_count, at_number}
 use Rattle.un_model.proofs.PlacedSchedules.{all, spots, spot_range, one_spot}
 use Rattle.un_sites.specs.CallBefores.{reads_anew, count_from}

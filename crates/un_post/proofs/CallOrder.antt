@@ -38,7 +38,7 @@ use Rattle.un_model.specs.Schedules.{schedule_of, issues_of, value_by, cycle_by}
 use Rattle.un_model.specs.Solutions.{share_of, IsSchedule, IsPlaced, IsPlacedAs, IsLast, latency_gap, after_write, memory_distance}
 use Rattle.un_model.specs.Variables.{model_of, arcs_of, blocks_temps, block_count, ops_count, var_at}
 use Rattle.un_model.proofs.ArcsKept.{KeepsArc, arcs_kept}
-use Rattle.un_model.proofs.Lists.{Member, each_member, any_of, member_map_of, index_get, place_of as position_of}
+use Rattle.un_lists.proofs.Lists.{Member, each_member, any_of, member_map_of, index_get, place_of as position_of}
 use Rattle.un_model.proofs.Operations.{placed_is}
 use Rattle.un_model.proofs.Placed.{Placed, Region, region_placed, vars_of, issue_at}
 use Rattle.un_model.proofs.PlacedSchedules.{all, issue_here, each_issue}

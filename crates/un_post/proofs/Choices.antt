@@ -18,7 +18,7 @@ use Rattle.un_model.specs.Schedules.{schedule_of, read_of, value_by}
 use Rattle.un_model.specs.Solutions.{KeepsChoices, IsLive}
 use Rattle.un_ir.specs.Kinds.{is_optional, has_choices}
 use Rattle.un_model.specs.Variables.{model_of, var_at, var_if, choice_place}
-use Rattle.un_model.proofs.Lists.{Member, member_at, slice_get-map}
+use Rattle.un_lists.proofs.Lists.{Member, member_at, slice_get-map}
 use Rattle.un_model.proofs.Placed.{Placed, vars_of, issue_at, Spot}
 use Rattle.un_model.proofs.PlacedSchedules.{spots, spot_range, the_ranges, spot_here, one_spot}
 use Rattle.un_model.proofs.TempKinds.{carried_at, spot_carried, carried_are}

@@ -30,8 +30,8 @@ use Rattle.un_model.specs.Pairs.{places_from, joined, over_blocks}
 use Rattle.un_model.specs.Schedules.{reads_of, schedule_of}
 use Rattle.un_ir.specs.Kinds.{has_choices}
 use Rattle.un_model.specs.Variables.{model_of, var_at, choice_place, block_vars, blocks_vars, ops_count}
-use Rattle.un_model.proofs.Lists.{Each, Member, each_append, each_join, each_of, each_member, member_at, place_of as position_of, get_below}
-use Rattle.un_model.proofs.Lists.{length_get, map-append}
+use Rattle.un_lists.proofs.Lists.{Each, Member, each_append, each_join, each_of, each_member, member_at, place_of as position_of, get_below}
+use Rattle.un_lists.proofs.Lists.{length_get, map-append}
 use Rattle.un_model.proofs.Operations.{contains_member, placed_get}
 use Rattle.un_model.proofs.Placed.{vars_of, Spot, spot, Region, region_placed}
 use Rattle.un_model.proofs.PlacedSchedules.{spots, spot_range, the_ranges, range_get}

@@ -7,7 +7,7 @@ use Rattle.un_ir.specs.declared.extended.ExtBlock.{ExtBlock}
 use Rattle.un_model.specs.Variables.{model_of, blocks_vars, blocks_count, block_count}
 use Rattle.un_model.specs.declared.model.Model.{Model}
 use Rattle.un_model.specs.declared.model.Options.{Options}
-use Rattle.un_model.proofs.Lists.{Each, Member, each_append, each_join, each_of}
+use Rattle.un_lists.proofs.Lists.{Each, Member, each_append, each_join, each_of}
 use Rattle.un_counted.specs.Counted.{counted_holds, row_holds, value_at}
 use Rattle.un_counted.specs.declared.counted.LeastEnd.{LeastEnd}
 use Rattle.un_kinds.specs.Scopes.{vars_in, row_vars}

@@ -32,9 +32,9 @@ use Rattle.un_model.specs.Pairs.{joined, places_from}
 use Rattle.un_model.specs.Schedules.{schedule_of, issues_of, value_by}
 use Rattle.un_model.specs.Solutions.{IsSchedule, latency_gap}
 use Rattle.un_model.specs.Variables.{model_of, arcs_of}
-use Rattle.un_model.proofs.Lists.{Each, Pairwise, Member, each_of, each_member, pairwise_more, member_append_right}
-use Rattle.un_model.proofs.Lists.{each_map, member_map_of, member_filter, member_of_filter, any_of, place_of as position_of}
-use Rattle.un_model.proofs.Lists.{pairwise_of_map, pairwise_map, pairwise_filter, pairwise_append_left, pairwise_append_right, member_map}
+use Rattle.un_lists.proofs.Lists.{Each, Pairwise, Member, each_of, each_member, pairwise_more, member_append_right}
+use Rattle.un_lists.proofs.Lists.{each_map, member_map_of, member_filter, member_of_filter, any_of, place_of as position_of}
+use Rattle.un_lists.proofs.Lists.{pairwise_of_map, pairwise_map, pairwise_filter, pairwise_append_left, pairwise_append_right, member_map}
 use Rattle.un_model.proofs.Placed.{Placed, Region, region_placed, vars_of, issue_at}
 use Rattle.un_model.proofs.Placed.{Spot, spot, spots_of, all_spots, issues_are, results_are}
 use Rattle.un_model.proofs.PlacedSchedules.{all, spots, one_spot, member_joined, member_places}

@@ -32,8 +32,8 @@ use Rattle.un_model.specs.Pairs.{places_from}
 use Rattle.un_model.specs.Schedules.{schedule_of, issues_of, reads_of, read_of, value_by, cycle_by, choice_of}
 use Rattle.un_model.specs.Solutions.{IsSchedule, latency_gap}
 use Rattle.un_model.specs.Variables.{model_of, var_at, ops_count}
-use Rattle.un_model.proofs.Lists.{Each, Pairwise, Member, each_of, each_member, member_at, member_map, member_map_of, member_of_filter}
-use Rattle.un_model.proofs.Lists.{member_append_right, any_of, get_below, pairwise_of_map, place_of as position_of}
+use Rattle.un_lists.proofs.Lists.{Each, Pairwise, Member, each_of, each_member, member_at, member_map, member_map_of, member_of_filter}
+use Rattle.un_lists.proofs.Lists.{member_append_right, any_of, get_below, pairwise_of_map, place_of as position_of}
 use Rattle.un_model.proofs.Operations.{placed_get}
 use Rattle.un_model.proofs.Placed.{Placed, Region, region_placed, vars_of, end_of, issue_at, Spot, spot, spots_of}
 use Rattle.un_model.proofs.PlacedSchedules.{all, spots, the_ranges, range_get, range_here, one_spot, definer_in, issue_here}

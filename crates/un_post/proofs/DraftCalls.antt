@@ -13,7 +13,7 @@ use Rattle.un_model.specs.declared.model.Options.{Options}
 use Rattle.un_model.specs.Schedules.{schedule_of}
 use Rattle.un_model.specs.Solutions.{IsSchedule, latency_gap}
 use Rattle.un_model.specs.Variables.{model_of}
-use Rattle.un_model.proofs.Lists.{Each, Member, member_map, member_filter}
+use Rattle.un_lists.proofs.Lists.{Each, Member, member_map, member_filter}
 use Rattle.un_model.proofs.Placed.{Placed, Region, region_placed, issue_at}
 use Rattle.un_model.proofs.PlacedSchedules.{all}
 use Rattle.un_press.proofs.Counting.{Differ}

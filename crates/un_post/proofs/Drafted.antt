@@ -19,7 +19,7 @@ use Rattle.un_model.specs.Instructions.{instruction_of, needs_by}
 use Rattle.un_model.specs.Schedules.{schedule_of, value_by}
 use Rattle.un_model.specs.Solutions.{IsSchedule, IsPlacedAs, latency_gap, share_of}
 use Rattle.un_model.specs.Variables.{model_of, arcs_of}
-use Rattle.un_model.proofs.Lists.{Each, Member, each_of, each_map, member_map_of, member_of_filter}
+use Rattle.un_lists.proofs.Lists.{Each, Member, each_of, each_map, member_map_of, member_of_filter}
 use Rattle.un_model.proofs.Placed.{Placed, Region, region_placed, vars_of, end_of, issue_at}
 use Rattle.un_model.proofs.Readings.{Solved}
 use Rattle.un_press.proofs.Counting.{Differ}

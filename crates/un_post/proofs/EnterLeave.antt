@@ -12,7 +12,7 @@ use Rattle.un_model.specs.declared.model.Options.{Options}
 use Rattle.un_model.specs.Schedules.{issues_of, schedule_of, value_by}
 use Rattle.un_model.specs.Solutions.{IsSchedule, HasFrame, is_frame_access, frame_distance, latency_gap}
 use Rattle.un_model.specs.Variables.{model_of}
-use Rattle.un_model.proofs.Lists.{Member, each_member, member_at}
+use Rattle.un_lists.proofs.Lists.{Member, each_member, member_at}
 use Rattle.un_model.proofs.Placed.{Placed, Region, region_placed, vars_of, issue_at}
 use Rattle.un_model.proofs.PlacedSchedules.{all, issue_here}
 use Rattle.un_post.proofs.AccessRooms.{framed, distant, late, placed_as}

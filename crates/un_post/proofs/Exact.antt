@@ -16,7 +16,7 @@ use Rattle.un_model.specs.declared.model.Model.{Model}
 use Rattle.un_model.specs.Options.{AreOptions}
 use Rattle.un_model.specs.Solutions.{InDomain, KeepsDomains}
 use Rattle.un_model.specs.Variables.{model_of}
-use Rattle.un_model.proofs.Lists.{Member}
+use Rattle.un_lists.proofs.Lists.{Member}
 use Rattle.un_sites.specs.Befores.{befores_of, lengths_of}
 use Rattle.un_kinds.specs.Constraints.{AllMet, Counted}
 use Rattle.un_sites.specs.Postings.{postings_of}

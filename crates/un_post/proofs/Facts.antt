@@ -23,7 +23,7 @@ use Rattle.un_model.specs.Schedules.{choice_of, value_by, cycle_by}
 use Rattle.un_model.specs.Solutions.{InDomain, KeepsDomains}
 use Rattle.un_model.specs.Variables.{model_of, var_at, var_if, has_cycle, choice_place, chosen_operands}
 use Rattle.un_model.specs.Variables.{domains_of, own_horizon, instr_domain, copy_domain, carries_truth}
-use Rattle.un_model.proofs.Lists.{Member, each_member, each_all, member_at, get_below, slice_get-map, length_get}
+use Rattle.un_lists.proofs.Lists.{Member, each_member, each_all, member_at, get_below, slice_get-map, length_get}
 use Rattle.un_model.proofs.Placed.{Placed, vars_of, issue_at, Spot, spot, spots_of}
 use Rattle.un_model.proofs.OpDomains.{InDomains, in_entry, keeps_sits, sits_left, all_sit, choice_sits, instr_sits}
 use Rattle.un_model.proofs.Operations.{GoodPlaced, all_good}

@@ -18,7 +18,7 @@ use Rattle.un_model.specs.declared.model.Options.{Options}
 use Rattle.un_model.specs.declared.model.OpVars.{OpVars}
 use Rattle.un_model.specs.Options.{AreOptions}
 use Rattle.un_model.specs.Variables.{model_of}
-use Rattle.un_model.proofs.Lists.{Each, Member, each_of, each_member, each_map}
+use Rattle.un_lists.proofs.Lists.{Each, Member, each_of, each_member, each_map}
 use Rattle.un_prop.specs.Fixes.{Known, order_free}
 use Rattle.un_prop.specs.Lawful.{Lawful}
 use Rattle.un_prop.specs.Rounds.{fix_of}

@@ -17,7 +17,7 @@ use Rattle.un_model.specs.Arcs.{own_instr}
 use Rattle.un_model.specs.Schedules.{schedule_of, issues_of, value_by}
 use Rattle.un_model.specs.Solutions.{IsSchedule, HasFrame, is_frame_access, latency_gap, share_of}
 use Rattle.un_model.specs.Variables.{model_of, arcs_of, ops_count}
-use Rattle.un_model.proofs.Lists.{Each, Member, each_of, each_member, each_map, member_map_of, member_at, any_of}
+use Rattle.un_lists.proofs.Lists.{Each, Member, each_of, each_member, each_map, member_map_of, member_at, any_of}
 use Rattle.un_model.proofs.Placed.{Placed, Region, region_placed, vars_of, issue_at}
 use Rattle.un_model.proofs.PlacedSchedules.{all, issue_here}
 use Rattle.un_model.proofs.Readings.{Solved}

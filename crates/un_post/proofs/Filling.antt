@@ -12,7 +12,7 @@ use Rattle.un_isa.specs.declared.table.Table.{Table}
 use Rattle.un_ir.specs.declared.extended.Ext.{Ext}
 use Rattle.un_model.specs.declared.model.Options.{Options}
 use Rattle.un_model.specs.Solutions.{share_of}
-use Rattle.un_model.proofs.Lists.{Each, Member, each_of, each_member, each_more, each_join}
+use Rattle.un_lists.proofs.Lists.{Each, Member, each_of, each_member, each_more, each_join}
 use Rattle.un_model.proofs.Placed.{Placed, issue_at}
 use Rattle.un_model.proofs.PlacedSchedules.{all}
 use Rattle.un_model.proofs.Readings.{Solved}

@@ -15,7 +15,7 @@ use Rattle.un_model.specs.Instructions.{instruction_of, copy_of}
 use Rattle.un_ir.specs.Kinds.{is_delimiter, is_optional, is_call_kind}
 use Rattle.un_model.specs.Schedules.{value_by}
 use Rattle.un_model.specs.Variables.{has_cycle, var_if, cycle_place, carries_truth, instr_domain}
-use Rattle.un_model.proofs.Lists.{Each, Member}
+use Rattle.un_lists.proofs.Lists.{Each, Member}
 use Rattle.un_model.proofs.OpDomains.{in_entry, instr_sits}
 use Rattle.un_model.proofs.Placed.{Placed, vars_of, issue_at}
 use Rattle.un_model.proofs.PlacedSchedules.{all}

@@ -14,8 +14,8 @@ use Rattle.un_model.specs.Pairs.{over_blocks}
 use Rattle.un_ir.specs.Kinds.{is_delimiter, is_call_kind}
 use Rattle.un_model.specs.Solutions.{Precedes, frame_distance}
 use Rattle.un_model.specs.Variables.{model_of, var_at, ops_count, block_vars, blocks_vars}
-use Rattle.un_model.proofs.Lists.{Each, Member, each_of, each_member, each_append, each_join, each_map, each_of_map, member_filter}
-use Rattle.un_model.proofs.Lists.{member_of_filter, member_map, member_map_of, member_at, place_of as position_of}
+use Rattle.un_lists.proofs.Lists.{Each, Member, each_of, each_member, each_append, each_join, each_map, each_of_map, member_filter}
+use Rattle.un_lists.proofs.Lists.{member_of_filter, member_map, member_map_of, member_at, place_of as position_of}
 use Rattle.un_model.proofs.Placed.{Placed, issue_at, Region, region_placed}
 use Rattle.un_model.proofs.PlacedSchedules.{all, joined_member}
 use Rattle.un_alt.specs.declared.frame.FrameUse.{FrameUse}

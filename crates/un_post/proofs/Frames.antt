@@ -22,8 +22,8 @@ use Rattle.un_model.specs.Schedules.{issues_of, schedule_of, value_by}
 use Rattle.un_model.specs.Solutions.{KeepsFrame, KeepsFrameOrder, HasFrame, Precedes, frame_distance, uses_frame, is_frame_access}
 use Rattle.un_model.specs.Solutions.{starts_in_slot}
 use Rattle.un_model.specs.Variables.{model_of, var_if}
-use Rattle.un_model.proofs.Lists.{Each, Member, each_of, each_member, any_of, member_filter, member_of_filter, member_map, member_map_of}
-use Rattle.un_model.proofs.Lists.{member_at}
+use Rattle.un_lists.proofs.Lists.{Each, Member, each_of, each_member, any_of, member_filter, member_of_filter, member_map, member_map_of}
+use Rattle.un_lists.proofs.Lists.{member_at}
 use Rattle.un_model.proofs.OpDomains.{flag_sits}
 use Rattle.un_model.proofs.Placed.{Placed, vars_of, issue_at, issues_are, Spot, spot}
 use Rattle.un_model.proofs.PlacedSchedules.{all, spots, spot_range, the_ranges, joined_member, member_joined}

@@ -30,7 +30,7 @@ use Rattle.un_model.specs.Schedules.{schedule_of, read_of, value_by, cycle_by}
 use Rattle.un_model.specs.Solutions.{KeepsChoices, KeepsLatencies, IsLive, IsPlaced, IsPlacedAs, IsLast, LeavesGap, latency_gap}
 use Rattle.un_model.specs.Variables.{model_of, has_cycle, var_at, var_if, cycle_place, choice_place, own_horizon}
 use Rattle.un_model.specs.Variables.{cycle_domain}
-use Rattle.un_model.proofs.Lists.{Member, each_member, each_of, member_at, slice_get-map}
+use Rattle.un_lists.proofs.Lists.{Member, each_member, each_of, member_at, slice_get-map}
 use Rattle.un_model.proofs.Placed.{Placed, Spot, vars_of, end_of, issue_at}
 use Rattle.un_model.proofs.OpDomains.{in_entry}
 use Rattle.un_model.proofs.PlacedSchedules.{all, spot_range, the_ranges}

@@ -23,8 +23,8 @@ use Rattle.un_model.specs.Instructions.{instruction_of, needs_by}
 use Rattle.un_model.specs.Schedules.{issues_of, schedule_of, value_by}
 use Rattle.un_model.specs.Solutions.{IsSchedule, latency_gap, share_of}
 use Rattle.un_model.specs.Variables.{model_of, arcs_of, var_at, var_if, has_cycle, cycle_place, ops_count}
-use Rattle.un_model.proofs.Lists.{Each, Member, each_of, each_member, each_more, each_map, each_join, member_map_of, member_of_filter}
-use Rattle.un_model.proofs.Lists.{member_append_left, place_of as position_of}
+use Rattle.un_lists.proofs.Lists.{Each, Member, each_of, each_member, each_more, each_map, each_join, member_map_of, member_of_filter}
+use Rattle.un_lists.proofs.Lists.{member_append_left, place_of as position_of}
 use Rattle.un_model.proofs.Placed.{Placed, Region, region_placed, vars_of, issue_at}
 use Rattle.un_model.proofs.PlacedSchedules.{all}
 use Rattle.un_prop.specs.Acts.{at_value}

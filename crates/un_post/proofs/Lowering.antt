@@ -10,7 +10,7 @@ use Rattle.un_base.specs.declared.memory_error.NoMemory.{NoMemory}
 use Rattle.un_domains.specs.Sets.{Sets, NoneEmpty}
 use Rattle.un_model.specs.declared.model.Model.{Model}
 use Rattle.un_model.specs.Pairs.{over_blocks}
-use Rattle.un_model.proofs.Lists.{get_below, index_get}
+use Rattle.un_lists.proofs.Lists.{get_below, index_get}
 use Rattle.un_prop.specs.Rounds.{HasVars}
 use Rattle.un_prec.specs.declared.below.Weighted.{Weighted}
 use Rattle.un_prec.proofs.Looser.{stays_below_more}

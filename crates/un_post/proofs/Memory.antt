@@ -25,9 +25,9 @@ use Rattle.un_model.specs.Schedules.{issues_of, schedule_of, value_by}
 use Rattle.un_model.specs.Solutions.{IsSolution, KeepsMemory, Precedes, memory_distance}
 use Rattle.un_model.specs.Variables.{model_of, var_at, ops_count, block_count, blocks_temps}
 use Rattle.un_model.proofs.ArcsKept.{KeepsArc, arcs_kept}
-use Rattle.un_model.proofs.Lists.{Each, Pairwise, Member, each_of, each_member, each_map, each_of_map, pairwise_map, member_at}
-use Rattle.un_model.proofs.Lists.{slice_get-map}
-use Rattle.un_model.proofs.Lists.{place_of as position_of}
+use Rattle.un_lists.proofs.Lists.{Each, Pairwise, Member, each_of, each_member, each_map, each_of_map, pairwise_map, member_at}
+use Rattle.un_lists.proofs.Lists.{slice_get-map}
+use Rattle.un_lists.proofs.Lists.{place_of as position_of}
 use Rattle.un_model.proofs.Operations.{placed_is}
 use Rattle.un_model.proofs.Placed.{Placed, Region, region_placed, vars_of, issue_at, issues_are}
 use Rattle.un_model.proofs.PlacedSchedules.{all}

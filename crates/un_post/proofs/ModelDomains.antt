@@ -10,7 +10,7 @@ use Rattle.un_model.specs.declared.model.Model.{Model}
 use Rattle.un_model.specs.declared.model.Options.{Options}
 use Rattle.un_model.specs.Options.{AreOptions}
 use Rattle.un_model.specs.Variables.{IsModel, own_horizon, domains_of, model_of}
-use Rattle.un_model.proofs.Lists.{Each, each_member}
+use Rattle.un_lists.proofs.Lists.{Each, each_member}
 use Rattle.un_prop.specs.Looks.{InWords}
 use Rattle.un_root.proofs.ModelDomains.{IsWordDomain, domains_each, some_each, domains_are as are_domains}
 use Rattle.un_post.proofs.Exact.{any_equal as has_member}

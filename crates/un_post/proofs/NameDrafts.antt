@@ -36,8 +36,8 @@ use Rattle.un_model.specs.Solutions.{InSpace, IsSchedule, latency_gap}
 use Rattle.un_model.specs.Variables.{model_of, arcs_of, ops_count, var_at}
 use Rattle.un_model.specs.declared.model.Arc.{Arc}
 use Rattle.un_model.specs.declared.model.Options.{Options}
-use Rattle.un_model.proofs.Lists.{Each, Member, each_of, each_more, each_member, each_join, each_map, member_at, member_map, member_filter}
-use Rattle.un_model.proofs.Lists.{member_map_of, member_of_filter, none_any}
+use Rattle.un_lists.proofs.Lists.{Each, Member, each_of, each_more, each_member, each_join, each_map, member_at, member_map, member_filter}
+use Rattle.un_lists.proofs.Lists.{member_map_of, member_of_filter, none_any}
 use Rattle.un_model.proofs.Operations.{placed_get}
 use Rattle.un_model.proofs.Placed.{Placed, Region, region_placed, vars_of, issue_at, Spot}
 use Rattle.un_model.proofs.PlacedSchedules.{all, member_joined}

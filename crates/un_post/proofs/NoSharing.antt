@@ -11,8 +11,8 @@ use Rattle.un_model.specs.declared.schedule.LiveRange.{LiveRange}
 use Rattle.un_model.specs.Pairs.{joined}
 use Rattle.un_model.specs.Solutions.{ShareNoCycle}
 use Rattle.un_model.specs.Variables.{model_of}
-use Rattle.un_model.proofs.Lists.{Each, Pairwise, Member, each_of, each_member, each_join, pairwise_all, pairwise_map}
-use Rattle.un_model.proofs.Lists.{pairwise_of_map, pairwise_more, pairwise_append_left, pairwise_append_right}
+use Rattle.un_lists.proofs.Lists.{Each, Pairwise, Member, each_of, each_member, each_join, pairwise_all, pairwise_map}
+use Rattle.un_lists.proofs.Lists.{pairwise_of_map, pairwise_more, pairwise_append_left, pairwise_append_right}
 use Rattle.un_model.proofs.Placed.{Region, region_placed, Spot}
 use Rattle.un_model.proofs.PlacedSchedules.{spots, spot_range, the_ranges, joined_member}
 use Rattle.un_prop.specs.declared.act.Temp.{Temp}

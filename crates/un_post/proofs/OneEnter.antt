@@ -12,7 +12,7 @@ use Rattle.un_ir.specs.declared.extended.Ext.{Ext}
 use Rattle.un_ir.specs.Extended.{is_enter, one_if}
 use Rattle.un_model.specs.declared.model.Options.{Options}
 use Rattle.un_model.specs.Variables.{var_at, var_count, ops_count}
-use Rattle.un_model.proofs.Lists.{Member, get_below, member_of_filter}
+use Rattle.un_lists.proofs.Lists.{Member, get_below, member_of_filter}
 use Rattle.un_model.proofs.Placed.{Placed, placed, Region, region_placed}
 use Rattle.un_model.proofs.PlacedSchedules.{all}
 use Rattle.un_model.proofs.RegionEnds.{all_regions, region_member, filter_one}

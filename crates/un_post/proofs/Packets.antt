@@ -24,7 +24,7 @@ use Rattle.un_model.specs.Schedules.{schedule_of, issues_of, value_by}
 use Rattle.un_model.specs.Solutions.{KeepsPackets, HasRoom, Fits, share_of, issues_at, taken}
 use Rattle.un_isa.specs.PacketCounts.{places_of, share_of as need_of}
 use Rattle.un_model.specs.Variables.{model_of, has_cycle, var_if, cycle_place, cycle_domain, own_horizon}
-use Rattle.un_model.proofs.Lists.{Pairwise, Member, each_of, each_member, member_map_of, member_of_filter, length_get}
+use Rattle.un_lists.proofs.Lists.{Pairwise, Member, each_of, each_member, member_map_of, member_of_filter, length_get}
 use Rattle.un_model.proofs.OpDomains.{in_entry}
 use Rattle.un_model.proofs.Placed.{Placed, Region, region_placed, vars_of, issue_at, issues_are}
 use Rattle.un_model.proofs.PlacedSchedules.{all}

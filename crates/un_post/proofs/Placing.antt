@@ -12,7 +12,7 @@ use Rattle.un_ir.specs.Extended.{all_results, temp}
 use Rattle.un_model.specs.declared.model.Options.{Options}
 use Rattle.un_model.specs.Pairs.{pairs_from, over_blocks}
 use Rattle.un_model.specs.Variables.{model_of, op_vars, ops_vars, var_count, var_at, ops_count, block_count, blocks_vars, register_place}
-use Rattle.un_model.proofs.Lists.{Member, map-append, slice_get-map}
+use Rattle.un_lists.proofs.Lists.{Member, map-append, slice_get-map}
 use Rattle.un_model.proofs.Placed.{Placed, placed, block_placed, blocks_placed, vars_of, all_count, at_number, Spot, temp_vars, temps_are}
 use Rattle.un_model.proofs.PlacedSchedules.{all, spots, spot_here}
 use Rattle.un_sites.specs.Places.{Place, Definer, place_at, block_places, places_of, definer_by, definer_of, definers_of, definer_or}

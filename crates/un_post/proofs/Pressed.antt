@@ -18,8 +18,8 @@ use Rattle.un_model.specs.Pairs.{joined, places_from}
 use Rattle.un_model.specs.Schedules.{schedule_of}
 use Rattle.un_model.specs.Solutions.{IsSchedule, latency_gap}
 use Rattle.un_model.specs.Variables.{model_of, arcs_of}
-use Rattle.un_model.proofs.Lists.{Member, each_of, each_map, member_map, member_map_of, member_filter, member_of_filter}
-use Rattle.un_model.proofs.Lists.{any_of, place_of as position_of, map-append, Pairwise, pairwise_map, pairwise_filter}
+use Rattle.un_lists.proofs.Lists.{Member, each_of, each_map, member_map, member_map_of, member_filter, member_of_filter}
+use Rattle.un_lists.proofs.Lists.{any_of, place_of as position_of, map-append, Pairwise, pairwise_map, pairwise_filter}
 use Rattle.un_model.proofs.Placed.{Placed, Region, region_placed, issue_at, Spot, spot, spots_of, all_spots}
 use Rattle.un_model.proofs.Readings.{Solved}
 use Rattle.un_prop.specs.Acts.{at_value}

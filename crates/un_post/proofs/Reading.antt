@@ -16,7 +16,7 @@ use Rattle.un_ir.specs.Extended.{is_copy, is_leave}
 use Rattle.un_ir.specs.Linear.{is_in}
 use Rattle.un_model.specs.declared.model.Arc.{Arc}
 use Rattle.un_model.specs.Pairs.{places_from, joined}
-use Rattle.un_model.proofs.Lists.{Each, each_of, each_member, each_more, each_map, each_join, each_filter, member_at}
+use Rattle.un_lists.proofs.Lists.{Each, each_of, each_member, each_more, each_map, each_join, each_filter, member_at}
 use Rattle.un_prop.specs.Acts.{act_vars, at_vars}
 use Rattle.un_prop.specs.declared.act.Act.{Act}
 use Rattle.un_prop.specs.declared.act.Act.TheVariants.{Always}

@@ -32,10 +32,10 @@ use Rattle.un_model.specs.Variables.{model_of, var_at, var_if, var_count, ops_co
 use Rattle.un_ir.specs.Kinds.{is_optional}
 use Rattle.un_model.specs.Variables.{count_if, has_cycle, cycle_place, choice_place}
 use Rattle.un_model.specs.Variables.{chosen_operands, own_horizon}
-use Rattle.un_model.proofs.Lists.{Each, Member, each_of, each_member, each_more, each_map, each_join}
-use Rattle.un_model.proofs.Lists.{each_all, each_filter, member_at, member_map}
-use Rattle.un_model.proofs.Lists.{length_get, member_append_right}
-use Rattle.un_model.proofs.Lists.{place_of as position_of}
+use Rattle.un_lists.proofs.Lists.{Each, Member, each_of, each_member, each_more, each_map, each_join}
+use Rattle.un_lists.proofs.Lists.{each_all, each_filter, member_at, member_map}
+use Rattle.un_lists.proofs.Lists.{length_get, member_append_right}
+use Rattle.un_lists.proofs.Lists.{place_of as position_of}
 use Rattle.un_model.proofs.Operations.{GoodPlaced, all_good, placed_get}
 use Rattle.un_model.proofs.Placed.{Placed, placed, block_placed, blocks_placed, Region, region_placed, Spot}
 use Rattle.un_model.proofs.Placed.{spot, spots_of, all_spots, temp_vars}

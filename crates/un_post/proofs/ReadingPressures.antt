@@ -9,7 +9,7 @@ use Rattle.un_ir.specs.Kinds.{is_call_kind, is_mandatory}
 use Rattle.un_ir.specs.declared.extended.ExtKind.{ExtKind}
 use Rattle.un_ir.specs.declared.extended.ExtKind.TheVariants.{In, Out}
 use Rattle.un_model.specs.declared.model.Arc.{Arc}
-use Rattle.un_model.proofs.Lists.{Each, each_of, each_more, each_map, each_filter}
+use Rattle.un_lists.proofs.Lists.{Each, each_of, each_more, each_map, each_filter}
 use Rattle.un_prop.specs.Acts.{at_vars, at_value}
 use Rattle.un_prop.specs.declared.act.At.{At}
 use Rattle.un_press.specs.Pressures.{is_live, live_holds}

@@ -17,8 +17,8 @@ use Rattle.un_model.specs.declared.model.Model.{Model}
 use Rattle.un_model.specs.declared.model.Options.{Options}
 use Rattle.un_model.specs.Options.{AreOptions}
 use Rattle.un_model.specs.Variables.{IsModel, model_of, domains_of, own_horizon, blocks_domains, blocks_count}
-use Rattle.un_model.proofs.Lists.{Each, Member, each_of, each_member, each_more, each_of_map, each_all, member_map_of}
-use Rattle.un_model.proofs.Lists.{member_append_right}
+use Rattle.un_lists.proofs.Lists.{Each, Member, each_of, each_member, each_more, each_of_map, each_all, member_map_of}
+use Rattle.un_lists.proofs.Lists.{member_append_right}
 use Rattle.un_model.proofs.Numbering.{length-blocks_domains}
 use Rattle.un_prop.specs.Among.{among}
 use Rattle.un_prop.specs.AmongLaws.{in_list}

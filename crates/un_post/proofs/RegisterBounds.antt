@@ -21,7 +21,7 @@ use Rattle.un_model.specs.Instructions.{result_space_in, gives_truth, is_predica
 use Rattle.un_model.specs.Registers.{start_home, general_registers, value_registers, predicate_registers, with_zero}
 use Rattle.un_model.specs.Solutions.{InDomain, InSpace}
 use Rattle.un_model.specs.Variables.{register_domain, source_domain}
-use Rattle.un_model.proofs.Lists.{Each, each_member}
+use Rattle.un_lists.proofs.Lists.{Each, each_member}
 use Rattle.un_model.proofs.Operations.{contains_member}
 use Rattle.un_root.proofs.RegisterBounds.{Below, HomeBelow, start_below, result_below, general_below, predicates_below, values_below}
 use Rattle.un_root.proofs.RegisterBounds.{zero_below, below_more}

@@ -34,8 +34,8 @@ use Rattle.un_model.specs.Schedules.{cycle_by, value_by}
 use Rattle.un_model.specs.Solutions.{IsPlaced, IsPlacedAs}
 use Rattle.un_model.specs.Variables.{model_of, op_vars, ops_vars, blocks_vars, ops_count, block_count, var_count, var_at, var_if}
 use Rattle.un_model.specs.Variables.{has_cycle, cycle_place, blocks_temps}
-use Rattle.un_model.proofs.Lists.{Each, Member, each_of, each_all, each_member, each_append, each_map, each_of_map, index_get, member_at}
-use Rattle.un_model.proofs.Lists.{slice_get-map}
+use Rattle.un_lists.proofs.Lists.{Each, Member, each_of, each_all, each_member, each_append, each_map, each_of_map, index_get, member_at}
+use Rattle.un_lists.proofs.Lists.{slice_get-map}
 use Rattle.un_model.proofs.Operations.{placed_is, placed_get}
 use Rattle.un_model.proofs.Placed.{Placed, placed, Region, region_placed, vars_of, issue_at}
 use Rattle.un_model.proofs.PlacedSchedules.{all}

@@ -16,7 +16,7 @@ use Rattle.un_model.specs.Instructions.{instruction_of, needs_by}
 use Rattle.un_model.specs.Schedules.{issues_of, schedule_of, value_by}
 use Rattle.un_model.specs.Solutions.{IsSchedule, latency_gap, share_of}
 use Rattle.un_model.specs.Variables.{model_of, arcs_of, var_at, cycle_place, ops_count}
-use Rattle.un_model.proofs.Lists.{Each, Member, each_of, each_member}
+use Rattle.un_lists.proofs.Lists.{Each, Member, each_of, each_member}
 use Rattle.un_model.proofs.Placed.{Placed, Region, region_placed, vars_of, issue_at}
 use Rattle.un_press.proofs.Counting.{Differ, sum_beside}
 use Rattle.un_length.specs.declared.block.Precedence.{Precedence}

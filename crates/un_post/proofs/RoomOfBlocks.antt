@@ -12,7 +12,7 @@ use Rattle.un_model.specs.declared.model.Options.{Options}
 use Rattle.un_model.specs.Schedules.{schedule_of}
 use Rattle.un_model.specs.Solutions.{IsSchedule, InDomain, KeepsDomains, latency_gap}
 use Rattle.un_model.specs.Variables.{model_of, own_horizon, blocks_domains, blocks_count, register_place}
-use Rattle.un_model.proofs.Lists.{Member, member_at, member_map, member_filter, get_below}
+use Rattle.un_lists.proofs.Lists.{Member, member_at, member_map, member_filter, get_below}
 use Rattle.un_model.proofs.Numbering.{length-blocks_domains}
 use Rattle.un_model.proofs.OpDomains.{keeps_sits}
 use Rattle.un_model.proofs.Operations.{contains_member}

@@ -22,7 +22,7 @@ use Rattle.un_model.specs.Pairs.{joined}
 use Rattle.un_model.specs.Schedules.{schedule_of}
 use Rattle.un_model.specs.Solutions.{IsSchedule, IsSolution, latency_gap}
 use Rattle.un_model.specs.Variables.{IsModel, model_of}
-use Rattle.un_model.proofs.Lists.{Each, Member, member_at, member_map, place_of as position_of}
+use Rattle.un_lists.proofs.Lists.{Each, Member, member_at, member_map, place_of as position_of}
 use Rattle.un_model.proofs.Placed.{Region}
 use Rattle.un_model.proofs.PlacedSchedules.{get_range, member_joined}
 use Rattle.un_length.specs.declared.block.Task.{Task}

@@ -19,7 +19,7 @@ use Rattle.un_model.specs.declared.model.Options.{Options}
 use Rattle.un_model.specs.Schedules.{schedule_of}
 use Rattle.un_model.specs.Solutions.{IsSchedule, IsPlacedAs, latency_gap}
 use Rattle.un_model.specs.Variables.{model_of, arcs_of}
-use Rattle.un_model.proofs.Lists.{Each, Member, each_of, each_more, each_member, member_map_of, member_of_filter, any_of}
+use Rattle.un_lists.proofs.Lists.{Each, Member, each_of, each_more, each_member, member_map_of, member_of_filter, any_of}
 use Rattle.un_model.proofs.Placed.{Placed, Region, region_placed, end_of, issue_at}
 use Rattle.un_press.proofs.Spilling.{Several, placed_issue}
 use Rattle.un_length.specs.declared.block.Task.{Task}

@@ -13,7 +13,7 @@ use Rattle.un_ir.specs.declared.extended.ExtOp.{ExtOp}
 use Rattle.un_ir.specs.declared.extended.Operand.{Operand}
 use Rattle.un_model.specs.Congruences.{term_of}
 use Rattle.un_model.specs.Pairs.{joined, places_from}
-use Rattle.un_model.proofs.Lists.{Each, Pairwise, Member, member_map_of}
+use Rattle.un_lists.proofs.Lists.{Each, Pairwise, Member, member_map_of}
 use Rattle.un_model.proofs.Placed.{Placed, Spot, spot}
 use Rattle.un_model.proofs.PlacedSchedules.{split_member}
 use Rattle.un_press.proofs.Counting.{Differ}

@@ -22,8 +22,8 @@ use Rattle.un_model.specs.Congruences.{term_of, live_in_temps, live_out_reads, r
 use Rattle.un_model.specs.Schedules.{schedule_of, reads_of}
 use Rattle.un_model.specs.Solutions.{IsSchedule, latency_gap}
 use Rattle.un_model.specs.Variables.{model_of}
-use Rattle.un_model.proofs.Lists.{Each, Member, each_of}
-use Rattle.un_model.proofs.Lists.{any_of, get_below, length_get, place_of as position_of}
+use Rattle.un_lists.proofs.Lists.{Each, Member, each_of}
+use Rattle.un_lists.proofs.Lists.{any_of, get_below, length_get, place_of as position_of}
 use Rattle.un_model.proofs.Placed.{Placed, Region, end_of}
 use Rattle.un_model.proofs.PlacedSchedules.{the_ranges}
 use Rattle.un_model.proofs.Readings.{Solved}

@@ -20,7 +20,7 @@ use Rattle.un_ir.specs.Kinds.{is_delimiter}
 use Rattle.un_model.specs.Schedules.{schedule_of, read_of, value_by}
 use Rattle.un_model.specs.Solutions.{KeepsSpaces, InDomain, InSpace, ReadsInSpace, IsGivenInSpace}
 use Rattle.un_model.specs.Variables.{model_of, register_domain, register_place, carried}
-use Rattle.un_model.proofs.Lists.{Member, length_get, each_member, each_of, each_map, each_of_map}
+use Rattle.un_lists.proofs.Lists.{Member, length_get, each_member, each_of, each_map, each_of_map}
 use Rattle.un_model.proofs.OpDomains.{in_entry, register_sits}
 use Rattle.un_model.proofs.Placed.{Placed, vars_of, issue_at, Spot, spot}
 use Rattle.un_model.proofs.PlacedSchedules.{all, spots, spot_range, the_ranges}

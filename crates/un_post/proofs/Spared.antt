@@ -23,8 +23,8 @@ use Rattle.un_model.specs.Instructions.{instruction_of}
 use Rattle.un_model.specs.Schedules.{issues_of, value_by, cycle_by}
 use Rattle.un_model.specs.Solutions.{SparesRange, IsSpared}
 use Rattle.un_model.specs.Variables.{model_of, has_cycle, var_if}
-use Rattle.un_model.proofs.Lists.{Each, Member, each_of, each_member, each_map, each_of_map, member_map, member_map_of, member_filter}
-use Rattle.un_model.proofs.Lists.{member_of_filter, any_of}
+use Rattle.un_lists.proofs.Lists.{Each, Member, each_of, each_member, each_map, each_of_map, member_map, member_map_of, member_filter}
+use Rattle.un_lists.proofs.Lists.{member_of_filter, any_of}
 use Rattle.un_model.proofs.Placed.{Placed, Region, region_placed, vars_of, issue_at, Spot}
 use Rattle.un_model.proofs.PlacedSchedules.{all, spot_range, the_ranges}
 use Rattle.un_prop.specs.declared.act.Temp.{Temp}

@@ -25,8 +25,8 @@ use Rattle.un_ir.specs.Kinds.{is_delimiter, has_choices}
 use Rattle.un_model.specs.Schedules.{schedule_of, read_of, value_by}
 use Rattle.un_model.specs.Solutions.{IsSchedule, InSpace, ShareNoCycle, latency_gap}
 use Rattle.un_model.specs.Variables.{model_of, var_at, choice_place, register_place, carried as carried_here}
-use Rattle.un_model.proofs.Lists.{Each, Pairwise, Member, each_of, each_join, member_at, pairwise_all, pairwise_of_map, pairwise_two}
-use Rattle.un_model.proofs.Lists.{slice_get-map}
+use Rattle.un_lists.proofs.Lists.{Each, Pairwise, Member, each_of, each_join, member_at, pairwise_all, pairwise_of_map, pairwise_two}
+use Rattle.un_lists.proofs.Lists.{slice_get-map}
 use Rattle.un_model.proofs.OpDomains.{in_entry, register_sits}
 use Rattle.un_model.proofs.Placed.{Placed, vars_of, issue_at, Spot}
 use Rattle.un_model.proofs.PlacedSchedules.{all, spots, spot_range, the_ranges, one_spot, has_read, good_read}

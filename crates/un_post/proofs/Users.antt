@@ -17,7 +17,7 @@ use Rattle.un_model.specs.declared.schedule.Read.{Read}
 use Rattle.un_model.specs.Pairs.{places_from, joined}
 use Rattle.un_model.specs.Schedules.{read_of, value_by, cycle_for, last_read}
 use Rattle.un_ir.specs.Kinds.{has_choices}
-use Rattle.un_model.proofs.Lists.{Member, member_map, member_map_of, member_at, length_get}
+use Rattle.un_lists.proofs.Lists.{Member, member_map, member_map_of, member_at, length_get}
 use Rattle.un_model.proofs.Placed.{Placed, vars_of, issue_at, reads_at, Spot, Region, region_placed, reads_are}
 use Rattle.un_model.proofs.PlacedSchedules.{all, spots, spot_range, the_reads, one_spot, member_joined, joined_member, member_places}
 use Rattle.un_model.proofs.PlacedSchedules.{places_member, has_read}

@@ -16,8 +16,8 @@ use Rattle.un_model.specs.declared.schedule.LiveRange.{LiveRange}
 use Rattle.un_model.specs.Pairs.{places_from, joined}
 use Rattle.un_model.specs.Schedules.{issues_of, reads_of, read_of, range_of}
 use Rattle.un_model.specs.Variables.{model_of}
-use Rattle.un_model.proofs.Lists.{Each, Member, each_member, each_all, each_of, each_more, each_map, each_of_map, each_append, each_join}
-use Rattle.un_model.proofs.Lists.{member_map, member_at, place_of as position_of, slice_get-map, get_below}
+use Rattle.un_lists.proofs.Lists.{Each, Member, each_member, each_all, each_of, each_more, each_map, each_of_map, each_append, each_join}
+use Rattle.un_lists.proofs.Lists.{member_map, member_at, place_of as position_of, slice_get-map, get_below}
 use Rattle.un_model.proofs.Placed.{Placed, vars_of, issue_at, reads_at, Spot, spot, spots_of, temp_vars, issues_are, reads_are, temps_are}
 use Rattle.un_model.proofs.PlacedSchedules.{all, spots, spot_range, the_ranges, each_issue, active_spot, spot_here, member_joined}
 use Rattle.un_model.proofs.PlacedSchedules.{member_places}

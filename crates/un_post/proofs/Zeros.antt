@@ -20,7 +20,7 @@ use Rattle.un_model.specs.Schedules.{schedule_of, value_by}
 use Rattle.un_model.specs.Solutions.{KeepsZeros, IsIdleAtZero, IsZeroRange}
 use Rattle.un_model.specs.Variables.{model_of, var_at, var_if, has_cycle, cycle_place, choice_place}
 use Rattle.un_model.specs.Variables.{chosen_operands}
-use Rattle.un_model.proofs.Lists.{Each, Member, length_get, each_member, each_of}
+use Rattle.un_lists.proofs.Lists.{Each, Member, length_get, each_member, each_of}
 use Rattle.un_model.proofs.Placed.{Placed, vars_of, issue_at, spot}
 use Rattle.un_model.proofs.PlacedSchedules.{all, spot_range}
 use Rattle.un_prop.specs.Acts.{is_active}

@@ -97,8 +97,7 @@ fn all_props(alloc: Global, m: &Model, limit: Option<u64>) -> Result<Listed, NoM
 {
     let spots = all_spots(alloc, m)?;
     let sites = all_sites(alloc, spots.as_slice(), m.temps.as_slice())?;
-    let listed = with_tables(alloc, m, limit, sites.as_slice(), spots.as_slice())?;
-    Ok(listed)
+    with_tables(alloc, m, limit, sites.as_slice(), spots.as_slice())
 }
 
 /// What is posted for a model under a limit on the cost, or none. It fails where memory is short, or where there are more

@@ -88,7 +88,7 @@ fn post_implied(
 
 /// All that is posted for a model, of which these are the tables. Answers the place of the limit's propagator, or where it would stand.
 #[tactic(auto, using(un_kinds::proofs::Appends::five_added))]
-pub fn post_each(
+pub(crate) fn post_each(
     props: &mut Props,
     m: &Model,
     limit: Option<u64>,

@@ -30,8 +30,7 @@ pub fn store_of(alloc: Global, domains: &[Domain]) -> Result<Store, NoMemory>
 {
     number(domains.len())?;
     let same = copy_domains(alloc, domains)?;
-    let store = Store::new(alloc, same)?;
-    Ok(store)
+    Store::new(alloc, same)
 }
 
 /// The largest horizon of the blocks.

@@ -135,7 +135,7 @@ pub fn apart(w: &mut Window<'_>, before: Pruned, link: Link) -> Pruned
 }
 
 /// All that a link lets a store keep.
-pub fn keep_link(w: &mut Window<'_>, before: Pruned, link: Link) -> Pruned
+pub(crate) fn keep_link(w: &mut Window<'_>, before: Pruned, link: Link) -> Pruned
     requires vars { LinkVars w.old.vars.now link }
     requires known { HasVars w.old.vars.now w.old.store.now.sets }
     requires live { before ≢ Failed → NoneEmpty w.old.store.now.sets }

@@ -5,7 +5,7 @@ use Rattle.std.proofs.Common.{ap, ◌∙◌, subst, arith}
 use Rattle.std.specs.Prelude.{Some, slice_get, not, count_by, sum_by}
 use Rattle.std.proofs.lemmas.List.{length-append}
 use Rattle.std.proofs.lemmas.List.Sums.{sum_by-cons, sum_by-append}
-use Rattle.un_model.proofs.Lists.{Each, Pairwise, Member, each_member, each_of, split_at, member_filter}
+use Rattle.un_lists.proofs.Lists.{Each, Pairwise, Member, each_member, each_of, split_at, member_filter}
 
 -- no item stands twice
 abbrev pub Differ : {X : Type 0} → List X → Type 0

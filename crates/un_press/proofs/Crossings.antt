@@ -22,9 +22,9 @@ use Rattle.un_model.specs.Instructions.{instruction_of}
 use Rattle.un_model.specs.Schedules.{issues_of, value_by}
 use Rattle.un_model.specs.Solutions.{Occupies, ShareNoCycle, SparesRange, IsSpared}
 use Rattle.un_model.specs.Variables.{model_of}
-use Rattle.un_model.proofs.Lists.{Each, Pairwise, Member, each_member, each_all, each_of, each_map, pairwise_more, pairwise_map}
-use Rattle.un_model.proofs.Lists.{pairwise_filter}
-use Rattle.un_model.proofs.Lists.{pairwise_of_map, member_at, member_of_filter, index_get, length_get}
+use Rattle.un_lists.proofs.Lists.{Each, Pairwise, Member, each_member, each_all, each_of, each_map, pairwise_more, pairwise_map}
+use Rattle.un_lists.proofs.Lists.{pairwise_filter}
+use Rattle.un_lists.proofs.Lists.{pairwise_of_map, member_at, member_of_filter, index_get, length_get}
 use Rattle.un_model.proofs.Placed.{Placed, vars_of, issue_at, Spot, all_count, at_number}
 use Rattle.un_model.proofs.PlacedSchedules.{all, spots, definer_in, range_at, range_here, range_get, spot_range, one_spot, the_ranges}
 use Rattle.un_model.proofs.PlacedSchedules.{issue_here}

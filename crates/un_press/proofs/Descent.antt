@@ -18,7 +18,7 @@ use Rattle.un_model.specs.Instructions.{instruction_of, latency_by}
 use Rattle.un_model.specs.Schedules.{value_by}
 use Rattle.un_model.specs.Solutions.{latency_gap}
 use Rattle.un_model.proofs.Gaps.{gap_of_copy}
-use Rattle.un_model.proofs.Lists.{Member}
+use Rattle.un_lists.proofs.Lists.{Member}
 use Rattle.un_model.proofs.Placed.{Placed, issue_at, vars_of, Spot}
 use Rattle.un_model.proofs.PlacedSchedules.{all, spots, definer_in, range_at, range_here, spot_range, one_spot}
 use Rattle.un_model.proofs.Readings.{Solved, numbered, fit_kinds, placed_good, Reading, reading}

@@ -21,7 +21,7 @@ use Rattle.un_model.specs.Instructions.{instruction_of}
 use Rattle.un_model.specs.Schedules.{issues_of, schedule_of, value_by}
 use Rattle.un_model.specs.Solutions.{HasFrame, IsPlacedAs, Precedes, frame_distance, is_frame_access, starts_in_slot}
 use Rattle.un_model.specs.Variables.{model_of, var_at, ops_count}
-use Rattle.un_model.proofs.Lists.{Member, each_member, each_all, member_at, member_append_left, member_append_right}
+use Rattle.un_lists.proofs.Lists.{Member, each_member, each_all, member_at, member_append_left, member_append_right}
 use Rattle.un_model.proofs.Operations.{placed_get}
 use Rattle.un_model.proofs.Placed.{Placed, region_placed, parted, vars_of, end_of, issue_at}
 use Rattle.un_model.proofs.PlacedSchedules.{all, issue_here}

@@ -44,8 +44,8 @@ use Rattle.un_model.specs.Registers.{is_truth}
 use Rattle.un_model.specs.Instructions.{gives_truth}
 use Rattle.un_model.specs.Solutions.{InDomain}
 use Rattle.un_model.specs.Variables.{register_domain, source_domain, carried}
-use Rattle.un_model.proofs.Lists.{Each, Member, member_append_left, member_append_right, each_more, member_at, each_member, each_of}
-use Rattle.un_model.proofs.Lists.{each_join, any_of, member_of_filter, member_filter, place_of}
+use Rattle.un_lists.proofs.Lists.{Each, Member, member_append_left, member_append_right, each_more, member_at, each_member, each_of}
+use Rattle.un_lists.proofs.Lists.{each_join, any_of, member_of_filter, member_filter, place_of}
 use Rattle.un_model.proofs.OpDomains.{register_sits, in_entry}
 use Rattle.un_model.proofs.Operations.{contains_member}
 use Rattle.un_model.proofs.Placed.{Placed, Spot}

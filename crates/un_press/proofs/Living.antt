@@ -3,7 +3,7 @@ use Rattle.std.proofs.Common.{ℕ, ◌≡◌, ◌≤◌, true, List, [], ◌∷�
 use Rattle.un_base.specs.declared.ids.TempId.{TempId}
 use Rattle.un_ir.specs.declared.extended.Ext.{Ext}
 use Rattle.un_model.specs.declared.model.Options.{Options}
-use Rattle.un_model.proofs.Lists.{Each, Member, each_of, each_map, pairwise_more, pairwise_map, pairwise_of_map}
+use Rattle.un_lists.proofs.Lists.{Each, Member, each_of, each_map, pairwise_more, pairwise_map, pairwise_of_map}
 use Rattle.un_model.proofs.Placed.{Spot}
 use Rattle.un_model.proofs.PlacedSchedules.{spots}
 use Rattle.un_model.proofs.Readings.{Solved}

@@ -19,8 +19,8 @@ use Rattle.un_model.specs.Instructions.{instruction_of, latency_by, space_read, 
 use Rattle.un_model.specs.Schedules.{value_by, choice_of}
 use Rattle.un_model.specs.Solutions.{InSpace, HasHome}
 use Rattle.un_model.specs.Variables.{model_of}
-use Rattle.un_model.proofs.Lists.{Each, Pairwise, Member, each_member, each_of, each_map, pairwise_more, pairwise_map, pairwise_filter}
-use Rattle.un_model.proofs.Lists.{member_of_filter}
+use Rattle.un_lists.proofs.Lists.{Each, Pairwise, Member, each_member, each_of, each_map, pairwise_more, pairwise_map, pairwise_filter}
+use Rattle.un_lists.proofs.Lists.{member_of_filter}
 use Rattle.un_model.proofs.Placed.{Placed, vars_of, end_of, issue_at}
 use Rattle.un_model.proofs.PlacedSchedules.{all, range_at, range_here, spot_range, one_spot}
 use Rattle.un_model.proofs.Readings.{Solved, numbered, placed_good, Reading, zip_get}

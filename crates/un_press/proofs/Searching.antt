@@ -32,7 +32,7 @@ use Rattle.un_model.specs.Schedules.{choice_of, cycle_of, read_of, schedule_of, 
 use Rattle.un_model.specs.Solutions.{IsSchedule, IsSolution, Occupies, latency_gap}
 use Rattle.un_model.specs.Variables.{IsModel, model_of, carried_by, first_alternative, blocks_temps, op_vars, ops_vars, var_count, var_at}
 use Rattle.un_model.specs.Variables.{ops_count, block_count, block_vars, blocks_vars}
-use Rattle.un_model.proofs.Lists.{Member, member_at, index_get, found, none_found, each_member, place_of, slice_get-map, length_get}
+use Rattle.un_lists.proofs.Lists.{Member, member_at, index_get, found, none_found, each_member, place_of, slice_get-map, length_get}
 use Rattle.un_model.proofs.Operations.{placed_is, contains_member}
 use Rattle.un_model.proofs.Placed.{Placed, placed, block_placed, blocks_placed, vars_of, end_of, issue_at, reads_at, reads_are, Counts}
 use Rattle.un_model.proofs.Placed.{all_count}

@@ -23,9 +23,9 @@ use Rattle.un_model.specs.Instructions.{instruction_of, space_given, copy_of}
 use Rattle.un_model.specs.Schedules.{issues_of, value_by, cycle_by}
 use Rattle.un_model.specs.Solutions.{InSpace, IsPlaced, IsPlacedAs}
 use Rattle.un_model.specs.Variables.{model_of, var_at, ops_count, block_count}
-use Rattle.un_model.proofs.Lists.{Each, Pairwise, Member, each_member, each_all, each_of, each_map, pairwise_more, pairwise_map}
-use Rattle.un_model.proofs.Lists.{pairwise_filter}
-use Rattle.un_model.proofs.Lists.{member_at, member_of_filter, length_get, place_of}
+use Rattle.un_lists.proofs.Lists.{Each, Pairwise, Member, each_member, each_all, each_of, each_map, pairwise_more, pairwise_map}
+use Rattle.un_lists.proofs.Lists.{pairwise_filter}
+use Rattle.un_lists.proofs.Lists.{member_at, member_of_filter, length_get, place_of}
 use Rattle.un_model.proofs.Operations.{placed_is}
 use Rattle.un_model.proofs.Placed.{Placed, block_placed, blocks_placed, vars_of, end_of, issue_at, Spot, spot, spots_of, all_count}
 use Rattle.un_model.proofs.Placed.{at_number}

@@ -18,28 +18,7 @@ use un_ir::extended::{ExtBlock, ExtKind, ExtOp};
 use un_model::cost::value;
 use un_model::instructions::instruction;
 use un_model::model::{BlockVars, Model, OpVars, Solution};
-use un_model::placement::choice;
-
-/// The value of a variable that not every operation has, 0 where there is none.
-fn optional_value(values: &[u32], v: Option<VarId>) -> u32
-    ensures { result ≡ value_by values.now v }
-{
-    match v {
-        None => 0,
-        Some(var) => value(values, var),
-    }
-}
-
-/// The cycle of an operation in a block with this end.
-fn cycle(values: &[u32], end: u32, kind: &ExtKind, vars: &OpVars) -> u32
-    ensures { result ≡ cycle_by values.now end kind.now vars.now }
-{
-    match kind {
-        ExtKind::In => 0,
-        ExtKind::Out => end,
-        _ => optional_value(values, vars.cycle),
-    }
-}
+use un_model::placement::{choice, cycle, optional_value};
 
 /// Whether an operation is active.
 fn is_active(values: &[u32], op: &ExtOp, vars: &OpVars) -> bool

@@ -35,8 +35,7 @@ fn extended_by(alloc: Global, f: &Function, live: &LiveSets, t: &Table) -> Resul
     ensures { IfOk result (IsExtOf t.now f.now) }
 {
     let linear = linearize(alloc, f, live, t)?;
-    let ext = extend(alloc, &linear)?;
-    Ok(ext)
+    extend(alloc, &linear)
 }
 
 /// The extended function of a function, for a table.
@@ -47,8 +46,7 @@ pub fn extended(alloc: Global, f: &Function, t: &Table) -> Result<Ext, NoMemory>
     ensures { IfOk result (IsExtOf t.now f.now) }
 {
     let live = live_in(alloc, f)?;
-    let ext = extended_by(alloc, f, &live, t)?;
-    Ok(ext)
+    extended_by(alloc, f, &live, t)
 }
 
 /// The model of a function for a table and under options.

@@ -127,7 +127,7 @@ impl Queue {
 }
 
 /// Lets the propagators at these places wait.
-pub fn wake(places: &[usize], waiting: &mut Queue)
+pub(crate) fn wake(places: &[usize], waiting: &mut Queue)
     requires { (i : ℕ) → has places.now i ≡ true → i < length waiting.old }
     ensures flags { length waiting.new ≡ length waiting.old }
     ensures there { (i : ℕ) → has places.now i ≡ true → waits waiting.new i ≡ true }
@@ -140,7 +140,7 @@ pub fn wake(places: &[usize], waiting: &mut Queue)
 
 /// Lets all propagators wait that read a variable of these which has another number of values than was noted, and
 /// notes it.
-pub fn wake_changed(
+pub(crate) fn wake_changed(
     vars: &[VarId],
     store: &Store,
     table: &[Items<usize>],

@@ -24,7 +24,7 @@ use un_words::shape::read_line;
 use un_words::words::tokens;
 
 /// The fault of a line, which is counted from 1.
-pub fn fault_of(line: usize, fault: Fault) -> ReadError
+pub(crate) fn fault_of(line: usize, fault: Fault) -> ReadError
     requires { line < 2 ^ 32 }
     ensures { result ≡ ReadError.TextFault line (code_of fault) }
 {

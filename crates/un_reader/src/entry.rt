@@ -47,7 +47,7 @@ fn has_live_in(parts: &Draft, columns: &[Items<bool>]) -> bool
 }
 
 /// Whether a name that is no parameter is live at the start of the entry.
-pub fn has_live(alloc: Global, parts: &Draft) -> Result<bool, NoMemory>
+pub(crate) fn has_live(alloc: Global, parts: &Draft) -> Result<bool, NoMemory>
     requires names { length parts.now.names < 2 ^ 32 }
     requires blocks { length parts.now.blocks < 2 ^ 32 }
     ensures yes { IfOk result (λ live. live ≡ true → (name : NameId)

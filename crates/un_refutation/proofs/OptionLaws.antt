@@ -9,7 +9,7 @@ use Rattle.un_report_reader.proofs.Once.{Once, regs_free, regs_once}
 use Rattle.un_report_reader.proofs.Seams.{number_seam}
 use Rattle.un_report_reader.specs.Lines.{number_text}
 use Rattle.un_report_reader.specs.Parts.{IsField, IsWithin, IsNumber}
-use Rattle.un_tree.proofs.Cuts.{cut_once}
+use Rattle.un_base.proofs.Cuts.{cut_once}
 use Rattle.un_refutation.specs.Refutations.{options_text}
 
 -- what stands behind the word of the registers

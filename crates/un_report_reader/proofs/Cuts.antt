@@ -5,9 +5,10 @@ use Rattle.std.specs.List.{AllByRecursion}
 use Rattle.std.specs.Str.{bytes_eq}
 use Rattle.std.proofs.lemmas.Fmt.{decimal_injective}
 use Rattle.un_report_reader.specs.Parts.{IsField, IsWithin, IsNumber}
-use Rattle.un_tree.proofs.Cuts.{begins, not_begins, cut_once, cut_none, cut_parts}
+use Rattle.un_tree.proofs.Cuts.{begins, not_begins}
+use Rattle.un_base.proofs.Cuts.{cut_once, cut_none, cut_parts}
 use Rattle.un_tree.proofs.NodeLines.{digits_apart}
-use Rattle.un_tree.specs.Texts.{IsCut}
+use Rattle.un_base.specs.Lines.{IsCut}
 
 -- ---- texts behind a start
 

@@ -18,7 +18,7 @@ use Rattle.un_report_reader.specs.Lines.{IsPlain, end_text}
 use Rattle.un_report_reader.specs.Parts.{IsWithin}
 use Rattle.un_report_reader.specs.declared.kind.Kind.TheVariants as KindOf
 use Rattle.un_report_reader.specs.declared.limits.Limits.{Limits}
-use Rattle.un_tree.proofs.Cuts.{cut_once}
+use Rattle.un_base.proofs.Cuts.{cut_once}
 use Rattle.un_tree.proofs.NodeLines.{digits_apart}
 use Rattle.un_tree.proofs.TreeTexts.{first_once, text_cons}
 use Rattle.un_tree.specs.Texts.{Fits, tree_text, BeginsNoNode}

@@ -22,7 +22,7 @@ use Rattle.un_report_reader.specs.Lines.{version_text, IsName, function_text, Ar
 use Rattle.un_report_reader.specs.Lines.{IsShort, tree_head, IsPlain, end_text}
 use Rattle.un_report_reader.specs.Readings.{IsReportRead}
 use Rattle.un_report_reader.specs.declared.kind.Kind.TheVariants as KindOf
-use Rattle.un_tree.proofs.Cuts.{cut_none}
+use Rattle.un_base.proofs.Cuts.{cut_none}
 use Rattle.un_tree.specs.Texts.{Fits, tree_text}
 use Rattle.un_tree.specs.declared.node.Node.{Node}
 use Rattle.un_tree.specs.declared.node.Node.TheVariants.{Open}

@@ -4,7 +4,7 @@ ghost use Rattle.std.specs.Prelude.{◌≡◌, ◌≢◌, ℕ, ◌<◌, List, �
 ghost use Rattle.un_report_reader.specs.Parts.{IsField, IsWithin, IsNumber};
 
 use un_base::decimal::read_decimal;
-use un_tree::line::cut;
+use un_base::lines::cut;
 
 /// What stands behind these first bytes.
 pub(crate) fn after<'a>(text: &'a [u8], start: &[u8]) -> Option<&'a [u8]>

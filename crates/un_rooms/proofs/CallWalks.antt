@@ -9,7 +9,7 @@ use Rattle.un_isa.specs.declared.table.Table.{Table}
 use Rattle.un_model.specs.declared.model.Arc.{Arc}
 use Rattle.un_model.specs.Pairs.{any_from, joined, places_from}
 use Rattle.un_model.specs.Variables.{count_if}
-use Rattle.un_model.proofs.Lists.{slice_get-map, map-append, member_at}
+use Rattle.un_lists.proofs.Lists.{slice_get-map, map-append, member_at}
 use Rattle.un_model.proofs.Steps.{drop_at, drop_past}
 use Rattle.un_sites.specs.CallBefores.{of_call, of_call_at, of_calls, count_from, is_between}
 use Rattle.un_kinds.specs.Constraints.{Constraint}

@@ -5,7 +5,7 @@ use Rattle.std.specs.Prelude.{Option, Some, fold, slice_get, if◌then◌else◌
 use Rattle.std.specs.Option.{option_map}
 use Rattle.un_isa.specs.declared.table.Table.{Table}
 use Rattle.un_model.specs.declared.model.Arc.{Arc}
-use Rattle.un_model.proofs.Lists.{slice_get-map}
+use Rattle.un_lists.proofs.Lists.{slice_get-map}
 use Rattle.un_length.specs.declared.block.Task.{Task}
 use Rattle.un_model.proofs.Steps.{drop_at}
 use Rattle.un_rooms.specs.Demands.{demand_of, end_by, task_by}

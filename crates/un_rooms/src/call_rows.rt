@@ -54,7 +54,7 @@ fn op_of(definer: &Site<'_>) -> u32
 }
 
 /// A copy of a list of users.
-pub fn copy_users(alloc: Global, users: &[UserOf]) -> Result<Items<UserOf>, AllocError>
+pub(crate) fn copy_users(alloc: Global, users: &[UserOf]) -> Result<Items<UserOf>, AllocError>
     ensures { IfOk result (λ list. list ≡ users.now) }
 {
     let list = users.to_vec(alloc)?;

@@ -45,7 +45,7 @@ fn on_side_by<'a>(
 }
 
 /// The operations of a list that are behind a call, or, where `behind` is false, those that are not.
-pub fn on_side<'a>(
+pub(crate) fn on_side<'a>(
     alloc: Global,
     reach: Reach,
     arcs: &[Arc],
@@ -59,6 +59,5 @@ pub fn on_side<'a>(
         ≡ filter (λ (p : Place). on_side behind (is_behind arcs.now (place_of call.now) p)) (map place_of spots.now)) }
 {
     let marks = mark_reached(alloc, reach, arcs, call.op)?;
-    let found = on_side_by(alloc, reach.low, marks.as_slice(), call.op, behind, spots)?;
-    Ok(found)
+    on_side_by(alloc, reach.low, marks.as_slice(), call.op, behind, spots)
 }

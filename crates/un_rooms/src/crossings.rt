@@ -223,12 +223,11 @@ pub(crate) fn crossing_all(
     let before = ahead(alloc, reach, arcs, call, spots)?;
     let loose = loose(alloc, reach, arcs, call, spots)?;
     let values = temps_in(alloc, before.as_slice())?;
-    let all = crossing_count(
+    crossing_count(
         alloc,
         false,
         behind.as_slice(),
         loose.as_slice(),
         values.as_slice(),
-    )?;
-    Ok(all)
+    )
 }

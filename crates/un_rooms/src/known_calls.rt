@@ -93,13 +93,12 @@ fn crossing_values(
     let before = ahead(alloc, reach, arcs, call, spots)?;
     let loose = loose(alloc, reach, arcs, call, spots)?;
     let values = temps_in(alloc, before.as_slice())?;
-    let found = carried_values(
+    carried_values(
         alloc,
         behind.as_slice(),
         loose.as_slice(),
         values.as_slice(),
-    )?;
-    Ok(found)
+    )
 }
 
 /// How many names cross a call of a block and are read in registers behind it: none are counted where a saved value is among them.
@@ -179,6 +178,5 @@ pub(crate) fn crossed_in(
 {
     let reach = reach_of(spots, arcs);
     let calls = calls_in(alloc, reach, spots)?;
-    let crossed = crossed_all(alloc, reach, arcs, block, ops, spots, calls.as_slice())?;
-    Ok(crossed)
+    crossed_all(alloc, reach, arcs, block, ops, spots, calls.as_slice())
 }

@@ -156,6 +156,5 @@ pub fn rows_of(
     }
     let knowns = knowns_of(alloc, m, sites, spots)?;
     let basis = basis_of(alloc, m)?;
-    let rows = rows_by(alloc, &m.ext.table, basis, knowns.as_slice())?;
-    Ok(rows)
+    rows_by(alloc, &m.ext.table, basis, knowns.as_slice())
 }

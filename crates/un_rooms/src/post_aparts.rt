@@ -152,7 +152,7 @@ fn add_places(
 }
 
 /// The users of each of so many temporaries from `first` on.
-pub fn all_users(
+pub(crate) fn all_users(
     alloc: Global,
     first: u32,
     count: usize,

@@ -29,7 +29,7 @@ use un_sites::sites::{Site, Spot, site_of};
 use un_sites::tables::add_block;
 
 /// What is posted of the calls of a block for one of its temporaries, where the users of these stand from `first` on.
-pub fn post_spared(
+pub(crate) fn post_spared(
     props: &mut Props,
     mask: u64,
     sites: &[Site<'_>],
@@ -54,7 +54,7 @@ pub fn post_spared(
 }
 
 /// What is posted of the calls of a block for each of these temporaries, where the users of these stand from `first` on.
-pub fn post_spared_all(
+pub(crate) fn post_spared_all(
     props: &mut Props,
     mask: u64,
     sites: &[Site<'_>],

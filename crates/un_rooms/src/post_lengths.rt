@@ -112,7 +112,7 @@ fn known_block(
 {
     let waits = known_waits(alloc, m, all, b, spots)?;
     let arcs = arcs_at(&m.arcs, b);
-    let made = block_by(
+    block_by(
         alloc,
         &m.ext.table,
         registers,
@@ -123,8 +123,7 @@ fn known_block(
         end,
         horizon,
         spots,
-    )?;
-    Ok(made)
+    )
 }
 
 /// The operations of block `b`, of which the first has the number `first`, with the order among them.

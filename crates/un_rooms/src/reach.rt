@@ -102,7 +102,7 @@ fn one_mark(alloc: Global, reach: Reach, n: u32) -> Result<Vec<bool>, AllocError
 }
 
 /// Marks of the operations to which arcs lead from operation `n`, and of `n`.
-pub fn mark_reached(
+pub(crate) fn mark_reached(
     alloc: Global,
     reach: Reach,
     arcs: &[Arc],
@@ -118,7 +118,7 @@ pub fn mark_reached(
 }
 
 /// Marks of the operations that issue after operation `n`, whatever the cycles are.
-pub fn mark_waiting(
+pub(crate) fn mark_waiting(
     alloc: Global,
     reach: Reach,
     arcs: &[Arc],
@@ -135,7 +135,7 @@ pub fn mark_waiting(
 }
 
 /// Marks of the operations from which arcs lead to operation `n`, and of `n`.
-pub fn mark_leading(
+pub(crate) fn mark_leading(
     alloc: Global,
     reach: Reach,
     arcs: &[Arc],

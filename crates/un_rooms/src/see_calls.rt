@@ -25,7 +25,7 @@ use un_prop::act::UserOf;
 use un_sites::sites::{Spot, cycle_var};
 
 /// A call, with the users of each temporary among what is behind it.
-pub fn see_call(
+pub(crate) fn see_call(
     alloc: Global,
     reach: Reach,
     arcs: &[Arc],
@@ -87,7 +87,7 @@ fn see_among(
 }
 
 /// The calls among the operations of a block, each with the users of the temporaries of a span.
-pub fn see_calls(
+pub(crate) fn see_calls(
     alloc: Global,
     reach: Reach,
     arcs: &[Arc],

@@ -4,7 +4,7 @@ use Rattle.std.specs.List.{AllZip}
 use Rattle.std.specs.Prelude.{Some, slice_get}
 use Rattle.std.proofs.lemmas.List.Elements.{All-nil, All-cons}
 use Rattle.un_model.specs.Pairs.{places_from}
-use Rattle.un_model.proofs.Lists.{Each, each_of}
+use Rattle.un_lists.proofs.Lists.{Each, each_of}
 use Rattle.un_model.proofs.PlacedSchedules.{places_member}
 
 pub all_each : {X : Type 0} (P : X → Type 0) (xs : List X) → Each P xs → All P xs

@@ -41,10 +41,10 @@ use Rattle.un_model.specs.Variables.{IsModel, instr_domain, cycle_domain, choice
 use Rattle.un_ir.specs.Kinds.{has_choices}
 use Rattle.un_model.specs.Variables.{result_domain, carries_truth, chosen_operands, op_domains, ops_domains, blocks_domains}
 use Rattle.un_model.specs.Variables.{own_horizon, domains_of, model_of}
-use Rattle.un_model.proofs.Lists.{Each, Pairwise, Member, each_of, each_member, each_more, each_map, each_join, each_all, pairwise_filter}
-use Rattle.un_model.proofs.Lists.{pairwise_map, pairwise_all, member_filter, member_map_of}
-use Rattle.un_model.proofs.Lists.{member_append_left, member_append_right, place_of}
-use Rattle.un_model.proofs.Lists.{length_get, get_below, member_at}
+use Rattle.un_lists.proofs.Lists.{Each, Pairwise, Member, each_of, each_member, each_more, each_map, each_join, each_all, pairwise_filter}
+use Rattle.un_lists.proofs.Lists.{pairwise_map, pairwise_all, member_filter, member_map_of}
+use Rattle.un_lists.proofs.Lists.{member_append_left, member_append_right, place_of}
+use Rattle.un_lists.proofs.Lists.{length_get, get_below, member_at}
 use Rattle.un_model.proofs.Operations.{contains_member}
 use Rattle.un_root.proofs.Eaches.{all_each, each_places, zip_each}
 use Rattle.un_root.proofs.RegisterBounds.{start_below, saved_below, result_below}

@@ -16,7 +16,7 @@ use Rattle.un_ir.specs.declared.extended.Ext.{Ext}
 use Rattle.un_model.specs.declared.model.Options.{Options}
 use Rattle.un_model.specs.Registers.{reg_at, start_home, is_assignable, is_home, general_registers, value_registers, predicate_registers}
 use Rattle.un_model.specs.Registers.{slots_of, with_zero, is_truth}
-use Rattle.un_model.proofs.Lists.{Each, Member, each_of, each_join, each_more, member_of_filter}
+use Rattle.un_lists.proofs.Lists.{Each, Member, each_of, each_join, each_more, member_of_filter}
 
 -- ---- runs
 

@@ -35,8 +35,7 @@ fn store_of(alloc: Global, domains: &[Domain]) -> Result<Store, NoMemory>
 {
     number(domains.len())?;
     let same = copy_domains(alloc, domains)?;
-    let store = Store::new(alloc, same)?;
-    Ok(store)
+    Store::new(alloc, same)
 }
 
 /// The first box of a model. It fails where memory is short, or where there are more variables than numbers below 2^32.
@@ -53,6 +52,5 @@ pub fn first_box(alloc: Global, m: &Model) -> Result<Store, NoMemory>
     ensures marked { IfOk result (λ s. s.marked ≡ []) }
     ensures full { NoneEmpty (root_of m.now) }
 {
-    let store = store_of(alloc, m.domains.as_slice())?;
-    Ok(store)
+    store_of(alloc, m.domains.as_slice())
 }

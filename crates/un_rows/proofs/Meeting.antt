@@ -10,7 +10,7 @@ use Rattle.un_model.specs.Variables.{IsModel}
 use Rattle.un_model.specs.declared.model.BlockVars.{BlockVars}
 use Rattle.un_model.specs.declared.model.Model.{Model}
 use Rattle.un_model.specs.declared.model.Solution.{Solution}
-use Rattle.un_model.proofs.Lists.{Each, Member, each_all}
+use Rattle.un_lists.proofs.Lists.{Each, Member, each_all}
 use Rattle.un_model.proofs.Operations.{contains_member}
 use Rattle.un_press.proofs.Spilling.{le_true, lt_true}
 use Rattle.un_prop.specs.LookLaws.{both}

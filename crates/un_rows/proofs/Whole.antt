@@ -11,7 +11,7 @@ use Rattle.un_model.specs.Pairs.{joined, over_blocks}
 use Rattle.un_model.specs.Variables.{IsModel, blocks_vars, block_count}
 use Rattle.un_model.specs.declared.model.BlockVars.{BlockVars}
 use Rattle.un_model.specs.declared.model.Model.{Model}
-use Rattle.un_model.proofs.Lists.{Member}
+use Rattle.un_lists.proofs.Lists.{Member}
 use Rattle.un_model.proofs.Operations.{contains_member}
 use Rattle.un_model.proofs.PlacedSchedules.{joined_member}
 use Rattle.un_counted.specs.declared.counted.LeastEnd.{LeastEnd}

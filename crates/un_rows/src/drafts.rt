@@ -95,8 +95,7 @@ fn entry_draft(alloc: Global, n: u32, calls: &[Crossed], s: u32) -> Result<Draft
     if s == 0 {
         return Ok(no_draft(alloc));
     }
-    let d = spilling(alloc, n, calls, s)?;
-    Ok(d)
+    spilling(alloc, n, calls, s)
 }
 
 /// So many Reloads before the end.
@@ -142,8 +141,7 @@ fn return_draft(
         let d = leaving(alloc, t, n, calls, s)?;
         return Ok(d);
     }
-    let d = reloading(alloc, t, s)?;
-    Ok(d)
+    reloading(alloc, t, s)
 }
 
 /// Each of these, from place `n` on, issues behind the call at place `call`.
@@ -274,10 +272,7 @@ pub(crate) fn drafts_of(
             let d = return_draft(alloc, t, known.leaves, n, calls, s)?;
             Ok(Some(alone(alloc, d)?))
         }
-        Role::Middle => {
-            let drafts = middle_drafts(alloc, t, basis, s, n, calls)?;
-            Ok(drafts)
-        }
+        Role::Middle => { middle_drafts(alloc, t, basis, s, n, calls) }
         Role::Other => Ok(Some(Items::new(alloc))),
     }
 }

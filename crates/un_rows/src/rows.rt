@@ -21,8 +21,7 @@ fn draft_end(alloc: Global, t: &Table, known: &Known, d: &Draft) -> Result<u32, 
     ensures { IfOk result (λ end. end ≡ draft_end t.now known.now d.now) }
 {
     let block = drafted(alloc, t, known, d)?;
-    let end = least_end(alloc, &block, known.own)?;
-    Ok(end)
+    least_end(alloc, &block, known.own)
 }
 
 /// The greatest of those that several leave, and of its own.

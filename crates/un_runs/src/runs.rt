@@ -222,8 +222,7 @@ pub fn code_run(alloc: Global, input: &[u8]) -> Result<Vec<u8>, Refused>
     ensures refused { IfErr result (RefusesCode input.now) }
 {
     let parts = split(input);
-    let out = code_run_by(alloc, &hexagon(), parts.first, parts.second)?;
-    Ok(out)
+    code_run_by(alloc, &hexagon(), parts.first, parts.second)
 }
 
 /// The text of the function of so many blocks, 1 to 16, that a seed generates.

@@ -16,7 +16,7 @@ use Rattle.un_model.specs.Instructions.{instruction_of}
 use Rattle.un_model.specs.Schedules.{schedule_of, issues_of, value_by}
 use Rattle.un_model.specs.Solutions.{IsPlacedAs}
 use Rattle.un_model.specs.Variables.{model_of, var_at, ops_count}
-use Rattle.un_model.proofs.Lists.{Each, Member, each_member, each_more, place_of as position_of}
+use Rattle.un_lists.proofs.Lists.{Each, Member, each_member, each_more, place_of as position_of}
 use Rattle.un_model.proofs.Operations.{placed_is}
 use Rattle.un_model.proofs.Placed.{Placed, Region, region_placed, vars_of, end_of, issue_at}
 use Rattle.un_model.proofs.PlacedSchedules.{all, joined_member}

@@ -28,8 +28,8 @@ use Rattle.un_model.specs.Pairs.{places_from}
 use Rattle.un_model.specs.Schedules.{schedule_of, reads_of, read_of, choice_of, cycle_by}
 use Rattle.un_model.specs.Solutions.{IsPlacedAs}
 use Rattle.un_model.specs.Variables.{model_of, var_at, ops_count}
-use Rattle.un_model.proofs.Lists.{Each, Pairwise, Member, each_member, each_more, each_of, each_map, member_at, member_map}
-use Rattle.un_model.proofs.Lists.{member_of_filter, pairwise_map, pairwise_more, pairwise_of_map, pairwise_filter, length_get}
+use Rattle.un_lists.proofs.Lists.{Each, Pairwise, Member, each_member, each_more, each_of, each_map, member_at, member_map}
+use Rattle.un_lists.proofs.Lists.{member_of_filter, pairwise_map, pairwise_more, pairwise_of_map, pairwise_filter, length_get}
 use Rattle.un_model.proofs.Operations.{placed_get}
 use Rattle.un_model.proofs.Placed.{Placed, Region, region_placed, vars_of, end_of, issue_at, Spot, spot, spots_of}
 use Rattle.un_model.proofs.PlacedSchedules.{all, spots, the_ranges, range_get, range_here, one_spot, definer_in, member_joined, member_places}

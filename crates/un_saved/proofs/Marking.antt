@@ -9,7 +9,7 @@ use Rattle.un_ir.specs.Live.{targets_of}
 use Rattle.un_ir.specs.declared.extended.ExtBlock.{ExtBlock}
 use Rattle.un_model.specs.Congruences.{term_of}
 use Rattle.un_model.specs.Pairs.{joined, places_from}
-use Rattle.un_model.proofs.Lists.{Each, each_join}
+use Rattle.un_lists.proofs.Lists.{Each, each_join}
 use Rattle.un_saved.specs.Joined.{edge_to, edges_of, through_of, links_of, links_between, is_marked, is_at, marked, marked_by, marked_after}
 use Rattle.un_saved.specs.Joined.{entry_alone, joined_in, AreJoined}
 use Rattle.un_saved.specs.Saved.{keeps_places}

@@ -29,7 +29,7 @@ use Rattle.un_model.specs.declared.schedule.Schedule.{Schedule}
 use Rattle.un_model.specs.Congruences.{live_in_temps, live_out_reads, register_of, register_read, results_of_start, HandsOver, HandsOn}
 use Rattle.un_model.specs.Schedules.{schedule_of, reads_of, value_by, choice_of}
 use Rattle.un_model.specs.Variables.{model_of, var_at, choice_place, chosen_operands}
-use Rattle.un_model.proofs.Lists.{Each, Member, each_member, member_at, get_below, length_get, slice_get-map}
+use Rattle.un_lists.proofs.Lists.{Each, Member, each_member, member_at, get_below, length_get, slice_get-map}
 use Rattle.un_model.proofs.OpDomains.{in_entry, choice_sits}
 use Rattle.un_model.proofs.Operations.{contains_member}
 use Rattle.un_model.proofs.Placed.{Placed, Region, vars_of}

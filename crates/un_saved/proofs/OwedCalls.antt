@@ -15,7 +15,7 @@ use Rattle.un_model.specs.Solutions.{IsSolution}
 use Rattle.un_model.specs.declared.model.Options.{Options}
 use Rattle.un_model.specs.Schedules.{schedule_of}
 use Rattle.un_model.specs.Variables.{IsModel, model_of, var_at, ops_count}
-use Rattle.un_model.proofs.Lists.{Member, member_at, place_of as position_of}
+use Rattle.un_lists.proofs.Lists.{Member, member_at, place_of as position_of}
 use Rattle.un_model.proofs.Operations.{contains_member, placed_get}
 use Rattle.un_model.proofs.Placed.{Placed, Region, region_placed}
 use Rattle.un_model.proofs.Readings.{Solved}

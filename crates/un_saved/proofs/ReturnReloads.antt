@@ -25,8 +25,8 @@ use Rattle.un_model.specs.Instructions.{instruction_of, latency_by}
 use Rattle.un_model.specs.Schedules.{schedule_of, choice_of, cycle_by, value_by}
 use Rattle.un_model.specs.Solutions.{IsPlacedAs}
 use Rattle.un_model.specs.Variables.{model_of, var_at, ops_count}
-use Rattle.un_model.proofs.Lists.{Each, Pairwise, Member, any_of, each_member, each_of, each_map, member_at, member_of_filter, pairwise_map}
-use Rattle.un_model.proofs.Lists.{pairwise_more, pairwise_of_map, pairwise_filter, place_of as position_of}
+use Rattle.un_lists.proofs.Lists.{Each, Pairwise, Member, any_of, each_member, each_of, each_map, member_at, member_of_filter, pairwise_map}
+use Rattle.un_lists.proofs.Lists.{pairwise_more, pairwise_of_map, pairwise_filter, place_of as position_of}
 use Rattle.un_model.proofs.Operations.{placed_get}
 use Rattle.un_model.proofs.Placed.{Placed, Region, region_placed, vars_of, end_of, issue_at, Spot}
 use Rattle.un_model.proofs.PlacedSchedules.{all, spots, the_ranges, one_spot, definer_in}

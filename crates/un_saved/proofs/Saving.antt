@@ -5,7 +5,7 @@ use Rattle.un_base.specs.declared.ids.TempId.{TempId}
 use Rattle.un_ir.specs.Linear.{first_of, is_out}
 use Rattle.un_ir.specs.declared.extended.ExtOp.{ExtOp}
 use Rattle.un_ir.specs.declared.extended.Operand.{Operand}
-use Rattle.un_model.proofs.Lists.{get_below}
+use Rattle.un_lists.proofs.Lists.{get_below}
 use Rattle.un_model.proofs.Steps.{drop_at, drop_past}
 use Rattle.un_saved.specs.Saved.{end_operands, reads_alone, read_alone, reads_own}
 

@@ -4,7 +4,7 @@ use Rattle.un_base.specs.declared.ids.TempId.{TempId}
 use Rattle.un_ir.specs.Kinds.{is_delimiter}
 use Rattle.un_ir.specs.declared.extended.Ext.{Ext}
 use Rattle.un_model.specs.declared.model.Options.{Options}
-use Rattle.un_model.proofs.Lists.{Each}
+use Rattle.un_lists.proofs.Lists.{Each}
 use Rattle.un_model.proofs.Placed.{Placed}
 use Rattle.un_model.proofs.Readings.{Solved}
 use Rattle.un_press.proofs.Counting.{Differ}

@@ -12,7 +12,7 @@ ghost use Rattle.un_model.specs.Options.{AreOptions};
 ghost use Rattle.un_model.specs.Schedules.{issues_of, schedule_of};
 ghost use Rattle.un_model.specs.Solutions.{IsSolution};
 ghost use Rattle.un_model.specs.Variables.{IsModel, model_of};
-ghost use Rattle.un_model.proofs.Lists.{Member};
+ghost use Rattle.un_lists.proofs.Lists.{Member};
 ghost use Rattle.un_model.proofs.Placed.{Placed};
 ghost use Rattle.un_model.proofs.PlacedSchedules.{all};
 ghost use Rattle.un_model.proofs.Readings.{Solved};

@@ -56,8 +56,7 @@ fn tightened(alloc: Global, m: &Model, solution: Solution, nodes: u32) -> Result
     if nodes < BRANCH_NODES {
         return Ok(solution);
     }
-    let tight = without_merges(alloc, m, solution)?;
-    Ok(tight)
+    without_merges(alloc, m, solution)
 }
 
 /// A solution that was found as the best one, without merges where there are nodes for a branch, as it was found where there are fewer.

@@ -142,8 +142,7 @@ impl Dive {
             return Ok(false);
         }
         self.left -= 1;
-        let holds = go(&mut self.engine, v, x, side)?;
-        Ok(holds)
+        go(&mut self.engine, v, x, side)
     }
 
     /// Goes back by one decision, where there is one.

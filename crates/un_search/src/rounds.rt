@@ -46,7 +46,7 @@ pub struct Place {
 }
 
 /// Stores with room for looks and the order of a model, whose cycles go from 0 to `horizon`.
-pub fn first_stores(
+pub(crate) fn first_stores(
     alloc: Global,
     m: &Model,
     engine: Engine<AnyProp>,
@@ -95,7 +95,7 @@ pub fn first_place(alloc: Global, stores: ModelStores) -> Place
 }
 
 /// The stores of a place at the first box, on which the rounds do not fail.
-pub fn stores_of(rules: &Rules, place: Place) -> ModelStores
+pub(crate) fn stores_of(rules: &Rules, place: Place) -> ModelStores
     requires at { IsPlace rules.now place }
     requires first { path_of place.room ≡ [] }
     requires rests { fix_at rules.now.m.now rules.now.limit (root_of rules.now.m.now) ≢ None }

@@ -33,7 +33,7 @@ pub fn put_values(out: &mut Vec<u8>, values: &[u32]) -> Result<(), NoMemory> {
 }
 
 /// Appends the values of a domain.
-pub fn put_domain(out: &mut Vec<u8>, domain: &Domain) -> Result<(), NoMemory> {
+pub(crate) fn put_domain(out: &mut Vec<u8>, domain: &Domain) -> Result<(), NoMemory> {
     match domain {
         Domain::Range { lo, hi } => put_run(out, *lo, *hi),
         Domain::Set(values) => put_values(out, values.as_slice()),

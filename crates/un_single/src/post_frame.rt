@@ -161,8 +161,7 @@ fn entry_uses(alloc: Global, spots: &[Spot<'_>]) -> Result<Items<FrameUse>, Allo
     ensures { IfOk result (λ uses. uses ≡ uses_of (in_entry (map place_of spots.now))) }
 {
     let entry = entry_spots(alloc, spots)?;
-    let uses = uses_of(alloc, entry.as_slice())?;
-    Ok(uses)
+    uses_of(alloc, entry.as_slice())
 }
 
 /// The cycles of the Calls.

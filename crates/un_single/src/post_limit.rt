@@ -39,8 +39,7 @@ pub fn limit_prop(alloc: Global, m: &Model, limit: u64) -> Result<AnyProp, NoMem
     ensures { IfOk result (Makes (Below (ends_by m.now.ext.blocks m.now.blocks) limit)) }
 {
     let ends = ends_of(alloc, &m.ext.blocks, &m.blocks)?;
-    let made = make_below(alloc, ends, limit)?;
-    Ok(made)
+    make_below(alloc, ends, limit)
 }
 
 /// The cost is less than a limit, where there is one.

@@ -60,7 +60,11 @@ fn post_idle(props: &mut Props, instr: VarId, others: Items<VarId>) -> Result<()
 }
 
 /// An operation that is not active has only zeros.
-pub fn post_zeros(props: &mut Props, sites: &[Site<'_>], p: &Spot<'_>) -> Result<(), NoMemory>
+pub(crate) fn post_zeros(
+    props: &mut Props,
+    sites: &[Site<'_>],
+    p: &Spot<'_>,
+) -> Result<(), NoMemory>
     ensures { OnOk result (props.new ≡ props.old ++ zeros_of (definers_in sites.now) (place_of p.now)) }
 {
     if p.it.kind.is_fall() {
@@ -119,7 +123,7 @@ fn post_issue_at(
 }
 
 /// When an operation issues.
-pub fn post_issue(props: &mut Props, p: &Spot<'_>) -> Result<(), NoMemory>
+pub(crate) fn post_issue(props: &mut Props, p: &Spot<'_>) -> Result<(), NoMemory>
     ensures { OnOk result (props.new ≡ props.old ++ issues_in (place_of p.now)) }
 {
     match p.vars.cycle {

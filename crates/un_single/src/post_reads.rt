@@ -31,7 +31,7 @@ fn acts_of(alloc: Global, alts: &[Site<'_>]) -> Result<Items<Act>, AllocError>
 }
 
 /// An operand chooses an active temporary.
-pub fn post_chosen(
+pub(crate) fn post_chosen(
     props: &mut Props,
     on: Act,
     choice: Option<VarId>,
@@ -109,7 +109,7 @@ fn post_lones(props: &mut Props, t: &Table, p: &Spot<'_>, alts: &[Site<'_>]) -> 
 }
 
 /// An operand waits for what it chooses.
-pub fn post_waits(
+pub(crate) fn post_waits(
     props: &mut Props,
     t: &Table,
     p: &Spot<'_>,
@@ -129,7 +129,7 @@ pub fn post_waits(
 }
 
 /// An operand chooses what has its home.
-pub fn post_home(
+pub(crate) fn post_home(
     props: &mut Props,
     choice: Option<VarId>,
     alts: &[Site<'_>],

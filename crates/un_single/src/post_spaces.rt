@@ -65,7 +65,7 @@ fn post_in_space(
 }
 
 /// An operand lies in the space of the operation's instruction, but at a block's end in any.
-pub fn post_space(
+pub(crate) fn post_space(
     props: &mut Props,
     slots: u32,
     kind: &ExtKind,
@@ -124,7 +124,7 @@ fn post_results_of(
 }
 
 /// A copy's results lie in the space of its instruction; what the source defines has a domain in its space.
-pub fn post_results(
+pub(crate) fn post_results(
     props: &mut Props,
     slots: u32,
     sites: &[Site<'_>],

@@ -23,7 +23,7 @@ use Rattle.un_model.specs.Variables.{IsModel, model_of}
 use Rattle.un_model.specs.declared.model.Arc.{Arc}
 use Rattle.un_model.specs.declared.model.Model.{Model}
 use Rattle.un_model.specs.declared.model.TempVars.{TempVars}
-use Rattle.un_model.proofs.Lists.{Each, Member, each_member, each_of, member_filter, member_map}
+use Rattle.un_lists.proofs.Lists.{Each, Member, each_member, each_of, member_filter, member_map}
 use Rattle.un_model.proofs.PlacedSchedules.{member_joined}
 use Rattle.un_sites.specs.Crossings.{reads_value, is_asked, is_ahead, is_loose, is_carried, is_crossing, handed, crossing}
 use Rattle.un_sites.specs.Places.{Place}

@@ -64,7 +64,7 @@ fn pass(
 
 /// Runs from the entry, where at most `n` blocks are entered, and answers the block that would be entered next, or how
 /// the run stopped.
-pub fn run_blocks(
+pub(crate) fn run_blocks(
     alloc: Global,
     blocks: &[Block],
     replies: &[Reply],

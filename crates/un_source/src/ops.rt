@@ -154,7 +154,7 @@ fn step(
 }
 
 /// Operations, one after another, up to the first that stops.
-pub fn run_ops(
+pub(crate) fn run_ops(
     alloc: Global,
     ops: &[SrcOp],
     replies: &[Reply],

@@ -1,4 +1,3 @@
-pub mod Cuts
 pub mod DraftLaws
 pub mod LineLaws
 pub mod MemoryLaws

@@ -8,8 +8,9 @@ use Rattle.un_start.specs.declared.line.Line.{Line}
 use Rattle.un_start.specs.declared.line.Line.TheVariants.{Reg, Mem, Reply, Set, Junk, Blocks}
 use Rattle.un_start.specs.declared.word.Word.{Word}
 use Rattle.un_start.specs.declared.word.Word.TheVariants as WordOf
-use Rattle.un_start.specs.Lines.{word_text, word_of, two_numbers, numbers_text, line_text, AreWords, Fits, IsCut, BeginsNoLine}
-use Rattle.un_start.proofs.Cuts.{cut_once, cut_none, cut_parts}
+use Rattle.un_start.specs.Lines.{word_text, word_of, two_numbers, numbers_text, line_text, AreWords, Fits, BeginsNoLine}
+use Rattle.un_base.specs.Lines.{IsCut}
+use Rattle.un_base.proofs.Cuts.{cut_once, cut_none, cut_parts}
 
 all_append : (P : ℕ → Type 0) (xs ys : List ℕ) → AllByRecursion P xs → AllByRecursion P ys → AllByRecursion P (xs ++ ys)
 all_append P [] ys a b = b

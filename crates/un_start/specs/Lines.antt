@@ -55,11 +55,6 @@ Fits (Set a w) = AreWords a w
 Fits (Junk r n) = AreWords r n
 Fits (Blocks n) = n < 2 ^ 32
 
--- what stands before the first byte b, and what stands behind it
-pub record IsCut (text : List ℕ) (b : ℕ) (first rest : List ℕ) : Type 0 where
-  pub whole : text ≡ first ++ b ∷ rest
-  pub none : All (λ y. y ≢ b) first
-
 -- the text begins with this line, and goes on so
 pub record BeginsWith (text : List ℕ) (l : Line) (rest : List ℕ) : Type 0 where
   pub fits : Fits l

@@ -1,11 +1,12 @@
 //! The lines of a start, read.
 
-ghost use Rattle.std.specs.Prelude.{◌≡◌, ◌≢◌, ℕ, ◌<◌, ◌^◌, List, ◌∷◌, ◌++◌, All, IfSome, IfNone, decimal};
+ghost use Rattle.std.specs.Prelude.{◌≡◌, ◌≢◌, ℕ, ◌<◌, ◌^◌, List, ◌∷◌, ◌++◌, IfSome, IfNone, decimal};
 ghost use Rattle.un_start.specs.declared.line.Line.{Line};
-ghost use Rattle.un_start.specs.Lines.{Fits, AreWords, two_numbers, word_of, numbers_text, line_text, IsCut, BeginsWith, BeginsNoLine};
+ghost use Rattle.un_start.specs.Lines.{Fits, AreWords, two_numbers, word_of, numbers_text, line_text, BeginsWith, BeginsNoLine};
 
 use crate::word::{Word, word_of};
-use un_base::decimal::read_decimal;
+use un_base::decimal::number_of;
+use un_base::lines::cut;
 
 /// A line of a start.
 #[derive(Clone, Copy)]
@@ -22,30 +23,6 @@ pub enum Line {
     Junk { reg: u32, value: u32 },
     /// How many blocks may be entered.
     Blocks(u32),
-}
-
-/// What stands before the first byte `b`, and what stands behind it.
-fn cut(text: &[u8], b: u8) -> Option<(&[u8], &[u8])>
-    ensures some { IfSome result (λ parts. IsCut text.now b parts.0.now parts.1.now) }
-    ensures none { IfNone result (All (λ y. y ≢ b) text.now) }
-{
-    for (i, y) in text.iter().enumerate() {
-        if *y == b {
-            return Some((&text[..i], &text[i + 1..]));
-        }
-    }
-    None
-}
-
-/// The number of 32 bits whose decimal text this is.
-fn number_of(text: &[u8]) -> Option<u32>
-    ensures some { IfSome result (λ n. text.now ≡ decimal n) }
-    ensures none { IfNone result ((n : ℕ) → n < 2 ^ 32 → text.now ≢ decimal n) }
-{
-    match u32::try_from(read_decimal(text)?) {
-        Ok(n) => Some(n),
-        Err(_) => None,
-    }
 }
 
 /// The two numbers whose text this is.

@@ -14,7 +14,7 @@ pub const WORDS: usize = 4096;
 pub const REPLIES: usize = 256;
 
 /// How many blocks may be entered at most.
-pub const MOST_BLOCKS: u32 = 1_000_000;
+pub(crate) const MOST_BLOCKS: u32 = 1_000_000;
 
 /// Whether a register may hold a number.
 fn holds(reg: u32, value: u32) -> bool

@@ -25,7 +25,7 @@ use Rattle.un_model.specs.Schedules.{choice_of, value_by, chosen as chosen_temp}
 use Rattle.un_model.specs.Solutions.{InSpace, ShareNoCycle, latency_gap}
 use Rattle.un_model.specs.Variables.{model_of, var_at, var_if, choice_place, chosen_operands}
 use Rattle.un_model.proofs.Gaps.{gap_source, latency_some}
-use Rattle.un_model.proofs.Lists.{Member, slice_get-map, length_get, index_get, get_below}
+use Rattle.un_lists.proofs.Lists.{Member, slice_get-map, length_get, index_get, get_below}
 use Rattle.un_model.proofs.OpDomains.{in_entry, choice_sits}
 use Rattle.un_model.proofs.Placed.{Placed, vars_of, issue_at, Spot}
 use Rattle.un_model.proofs.PlacedSchedules.{all, spots, spot_range, range_here, range_get, the_ranges, one_spot, get_range}

@@ -10,7 +10,7 @@ use Rattle.un_base.specs.declared.ids.VarId.{VarId}
 use Rattle.un_ir.specs.declared.extended.Operand.{Operand}
 use Rattle.un_domains.specs.Sets.{has, least, greatest}
 use Rattle.un_domains.specs.SetLaws.{has-filter, has-cons, least-le, has-fold_max}
-use Rattle.un_model.proofs.Lists.{Member}
+use Rattle.un_lists.proofs.Lists.{Member}
 use Rattle.un_steps.specs.Words.{least_of, greatest_of, is_positive, Alternative, alternative_by, alternative_in}
 
 -- ---- what there is of an option

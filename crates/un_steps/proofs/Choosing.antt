@@ -15,7 +15,7 @@ use Rattle.un_model.specs.Instructions.{space_read}
 use Rattle.un_model.specs.Schedules.{value_by, read_of, choice_of, chosen as chosen_temp}
 use Rattle.un_model.specs.Solutions.{InSpace, HasHome, latency_gap}
 use Rattle.un_model.specs.Variables.{model_of, var_if, register_place}
-use Rattle.un_model.proofs.Lists.{Member, length_get}
+use Rattle.un_lists.proofs.Lists.{Member, length_get}
 use Rattle.un_model.proofs.Placed.{Placed, vars_of, issue_at, Spot, spot, spots_of}
 use Rattle.un_model.proofs.PlacedSchedules.{all, spots, spot_range, has_read, good_read, definer_in, joined_member, places_member}
 use Rattle.un_model.proofs.Readings.{Solved, numbered}

@@ -13,7 +13,7 @@ use Rattle.un_model.specs.declared.schedule.Issue.{Issue}
 use Rattle.un_model.specs.Schedules.{issues_of}
 use Rattle.un_model.specs.Solutions.{share_of, issues_at, taken, HasRoom}
 use Rattle.un_model.specs.Variables.{model_of}
-use Rattle.un_model.proofs.Lists.{Member}
+use Rattle.un_lists.proofs.Lists.{Member}
 use Rattle.un_model.proofs.Placed.{Placed, issue_at, issues_are}
 use Rattle.un_model.proofs.PlacedSchedules.{all}
 use Rattle.un_model.proofs.Readings.{Solved}

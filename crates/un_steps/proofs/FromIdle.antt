@@ -5,7 +5,7 @@ use Rattle.un_ir.specs.declared.extended.Ext.{Ext}
 use Rattle.un_domains.specs.Sets.{Sets, IsIn}
 use Rattle.un_model.specs.declared.model.Options.{Options}
 use Rattle.un_model.specs.Variables.{model_of}
-use Rattle.un_model.proofs.Lists.{Member}
+use Rattle.un_lists.proofs.Lists.{Member}
 use Rattle.un_model.proofs.Placed.{Placed}
 use Rattle.un_model.proofs.PlacedSchedules.{all}
 use Rattle.un_model.proofs.Readings.{Solved}

@@ -24,7 +24,7 @@ use Rattle.un_model.specs.Variables.{var_if, has_cycle, count_if, cycle_place, v
 use Rattle.un_model.specs.Variables.{blocks_count, blocks_domains, domains_of, own_horizon, instr_domain, cycle_domain, copy_domain}
 use Rattle.un_model.specs.Variables.{carries_truth, choice_domain, chosen_operands, result_domain, op_domains}
 use Rattle.un_model.specs.Pairs.{places_from}
-use Rattle.un_model.proofs.Lists.{Member, each_member}
+use Rattle.un_lists.proofs.Lists.{Member, each_member}
 use Rattle.un_model.proofs.Numbering.{length-blocks_domains}
 use Rattle.un_model.proofs.OpDomains.{in_entry, instr_sits}
 use Rattle.un_model.proofs.Placed.{Placed, vars_of, issue_at, end_of}

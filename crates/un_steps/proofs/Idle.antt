@@ -14,7 +14,7 @@ use Rattle.un_model.specs.Cost.{value_of}
 use Rattle.un_model.specs.Schedules.{value_by}
 use Rattle.un_model.specs.Solutions.{IsIdleAtZero, IsZeroRange}
 use Rattle.un_model.specs.Variables.{model_of, var_if, var_at, has_cycle, count_if, cycle_place, choice_place, chosen_operands}
-use Rattle.un_model.proofs.Lists.{Member, each_member, each_all, member_at, any_of, member_map_of, place_of}
+use Rattle.un_lists.proofs.Lists.{Member, each_member, each_all, member_at, any_of, member_map_of, place_of}
 use Rattle.un_model.proofs.Placed.{Placed, vars_of, issue_at, Spot}
 use Rattle.un_model.proofs.PlacedSchedules.{all, spots, spot_range, the_ranges, range_get, each_issue, split_member}
 use Rattle.un_model.proofs.Readings.{Solved, numbered}

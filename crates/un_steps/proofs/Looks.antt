@@ -6,7 +6,7 @@ use Rattle.std.specs.Option.{option_map}
 use Rattle.std.proofs.lemmas.Bool.Decides.{nat_tests}
 use Rattle.un_domains.specs.Sets.{has, least, greatest}
 use Rattle.un_domains.specs.SetLaws.{has-filter, has-cons, has-fold_max}
-use Rattle.un_model.proofs.Lists.{get_below, length_get}
+use Rattle.un_lists.proofs.Lists.{get_below, length_get}
 use Rattle.un_steps.specs.Words.{least_of, is_positive}
 use Rattle.un_steps.proofs.Boxes.{has_positive}
 

@@ -10,7 +10,7 @@ use Rattle.un_isa.specs.PacketCounts.{places_of}
 use Rattle.un_isa.specs.declared.packet_counts.Resource.{Resource}
 use Rattle.un_domains.specs.Sets.{Sets, least, greatest}
 use Rattle.un_model.specs.declared.model.Model.{Model}
-use Rattle.un_model.proofs.Lists.{Each, Member, each_member}
+use Rattle.un_lists.proofs.Lists.{Each, Member, each_member}
 use Rattle.un_steps.specs.Full.{IsFullTo, IsFullFrom}
 use Rattle.un_steps.specs.Rules.{are_among, issues_in, least_share, takes_in, IsFullIn}
 use Rattle.un_steps.specs.Words.{Operation, cycles, least_of, greatest_of, is_sure}

@@ -15,7 +15,7 @@ use Rattle.un_model.specs.Instructions.{instruction_of}
 use Rattle.un_model.specs.Schedules.{value_by, issues_of}
 use Rattle.un_model.specs.Solutions.{is_frame_access, starts_in_slot}
 use Rattle.un_model.specs.Variables.{model_of, var_if, blocks_count}
-use Rattle.un_model.proofs.Lists.{Member, member_at}
+use Rattle.un_lists.proofs.Lists.{Member, member_at}
 use Rattle.un_model.proofs.Placed.{Placed, vars_of, issue_at}
 use Rattle.un_model.proofs.PlacedSchedules.{all, issue_here, the_ranges}
 use Rattle.un_model.proofs.Readings.{Solved}

@@ -16,7 +16,7 @@ use Rattle.un_model.specs.declared.schedule.LiveRange.{LiveRange}
 use Rattle.un_model.specs.Congruences.{term_of, live_in_temps, live_out_reads, register_of, register_read, HandsOver, HandsOn}
 use Rattle.un_model.specs.Schedules.{reads_of, read_of}
 use Rattle.un_model.specs.Variables.{model_of, var_if}
-use Rattle.un_model.proofs.Lists.{Member, place_of as position_of, each_member}
+use Rattle.un_lists.proofs.Lists.{Member, place_of as position_of, each_member}
 use Rattle.un_model.proofs.Placed.{Placed, vars_of, issue_at, Spot, Region, region_placed}
 use Rattle.un_model.proofs.PlacedSchedules.{all, spots, the_ranges, range_get, active_spot, joined_member, split_member}
 use Rattle.un_model.proofs.Readings.{Solved, numbered}

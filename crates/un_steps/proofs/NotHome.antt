@@ -13,7 +13,7 @@ use Rattle.un_domains.specs.Sets.{Sets, has, IsIn}
 use Rattle.un_model.specs.declared.model.Options.{Options}
 use Rattle.un_model.specs.Solutions.{HasHome}
 use Rattle.un_model.specs.Variables.{model_of, var_if}
-use Rattle.un_model.proofs.Lists.{Member}
+use Rattle.un_lists.proofs.Lists.{Member}
 use Rattle.un_model.proofs.Placed.{Placed, vars_of, issue_at}
 use Rattle.un_model.proofs.PlacedSchedules.{all, spot_range}
 use Rattle.un_model.proofs.Readings.{Solved, placed_good, zip_get}

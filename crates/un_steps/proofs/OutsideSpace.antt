@@ -13,7 +13,7 @@ use Rattle.un_model.specs.Instructions.{instruction_of, space_given}
 use Rattle.un_model.specs.Schedules.{value_by}
 use Rattle.un_model.specs.Solutions.{InSpace}
 use Rattle.un_model.specs.Variables.{model_of, var_if, var_at}
-use Rattle.un_model.proofs.Lists.{Member, place_of, member_map}
+use Rattle.un_lists.proofs.Lists.{Member, place_of, member_map}
 use Rattle.un_model.proofs.Placed.{Placed, vars_of, issue_at, Spot, spot, spots_of}
 use Rattle.un_model.proofs.PlacedSchedules.{all, spots, given_space, member_joined, member_places, split_member}
 use Rattle.un_model.proofs.Readings.{Solved, numbered}

@@ -14,7 +14,7 @@ use Rattle.un_model.specs.Pairs.{pairs_from}
 use Rattle.un_model.specs.Schedules.{issues_of}
 use Rattle.un_model.specs.Variables.{model_of, op_vars, ops_vars, var_count, var_at, ops_count, block_count, blocks_count, blocks_vars}
 use Rattle.un_model.specs.Variables.{register_place}
-use Rattle.un_model.proofs.Lists.{Each, Member, each_join, map-append, slice_get-map, member_at}
+use Rattle.un_lists.proofs.Lists.{Each, Member, each_join, map-append, slice_get-map, member_at}
 use Rattle.un_model.proofs.Placed.{Placed, placed, block_placed, blocks_placed, vars_of, issue_at, issues_are, all_count, at_number, Spot, temp_vars, temps_are}
 use Rattle.un_model.proofs.PlacedSchedules.{all, spots, spot_here}
 use Rattle.un_steps.specs.Words.{Operation, operation, operations_from, operation_at, definer_of, definer_by, regs, regs_by}

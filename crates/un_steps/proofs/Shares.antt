@@ -8,7 +8,7 @@ use Rattle.un_isa.specs.declared.packet_counts.Resource.TheVariants.{Instruction
 use Rattle.un_domains.specs.Sets.{Sets, has, least}
 use Rattle.un_domains.specs.SetLaws.{has-cons}
 use Rattle.un_model.specs.declared.model.Model.{Model}
-use Rattle.un_model.proofs.Lists.{get_below}
+use Rattle.un_lists.proofs.Lists.{get_below}
 use Rattle.un_model.proofs.Steps.{drop_at, drop_past}
 use Rattle.un_steps.specs.Full.{less, IsLeastTo, takes_by}
 use Rattle.un_steps.specs.Rules.{takes_in}

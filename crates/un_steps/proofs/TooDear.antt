@@ -10,7 +10,7 @@ use Rattle.un_model.specs.declared.model.BlockVars.{BlockVars}
 use Rattle.un_model.specs.declared.model.Options.{Options}
 use Rattle.un_model.specs.Cost.{value_of, block_cost, blocks_cost, cost_of}
 use Rattle.un_model.specs.Variables.{model_of, block_count, blocks_vars, blocks_count, ops_count}
-use Rattle.un_model.proofs.Lists.{Each}
+use Rattle.un_lists.proofs.Lists.{Each}
 use Rattle.un_model.proofs.Readings.{Solved}
 use Rattle.un_steps.specs.Rules.{IsTooDear, end_with, cost_at, cost_with}
 use Rattle.un_steps.specs.Words.{least_of}

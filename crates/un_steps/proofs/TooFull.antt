@@ -19,7 +19,7 @@ use Rattle.un_model.specs.Pairs.{pairs_from}
 use Rattle.un_model.specs.Schedules.{value_by}
 use Rattle.un_model.specs.Solutions.{share_of}
 use Rattle.un_model.specs.Variables.{model_of, blocks_vars}
-use Rattle.un_model.proofs.Lists.{Member}
+use Rattle.un_lists.proofs.Lists.{Member}
 use Rattle.un_model.proofs.Placed.{Placed, vars_of, issue_at}
 use Rattle.un_model.proofs.PlacedSchedules.{all}
 use Rattle.un_model.proofs.Readings.{Solved}

@@ -9,7 +9,7 @@ use Rattle.un_domains.specs.Sets.{Sets, has, IsIn}
 use Rattle.un_model.specs.declared.model.Options.{Options}
 use Rattle.un_model.specs.Schedules.{value_by, cycle_by}
 use Rattle.un_model.specs.Variables.{model_of}
-use Rattle.un_model.proofs.Lists.{Member}
+use Rattle.un_lists.proofs.Lists.{Member}
 use Rattle.un_model.proofs.Placed.{Placed, vars_of, issue_at, end_of}
 use Rattle.un_model.proofs.PlacedSchedules.{all}
 use Rattle.un_model.proofs.Readings.{Solved, placed_domains}

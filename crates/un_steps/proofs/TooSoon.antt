@@ -13,7 +13,7 @@ use Rattle.un_model.specs.Schedules.{cycle_by}
 use Rattle.un_model.specs.Pairs.{joined}
 use Rattle.un_model.specs.Variables.{model_of, arcs_of as model_arcs}
 use Rattle.un_model.proofs.ArcsKept.{arcs_kept}
-use Rattle.un_model.proofs.Lists.{Member, member_at}
+use Rattle.un_lists.proofs.Lists.{Member, member_at}
 use Rattle.un_model.proofs.Placed.{Placed, vars_of, issue_at, end_of}
 use Rattle.un_model.proofs.PlacedSchedules.{all, split_member}
 use Rattle.un_model.proofs.Readings.{Solved}

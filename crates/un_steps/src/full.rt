@@ -271,7 +271,7 @@ pub(crate) fn is_full(m: &Model, s: &Store, b: &Block<'_>) -> bool
 }
 
 /// 13: of a block, its end and the cycles of its operations, where in some cycles its operations take more than the packets have.
-pub fn is_too_full(m: &Model, s: &Store, b: &Block<'_>, v: VarId) -> bool
+pub(crate) fn is_too_full(m: &Model, s: &Store, b: &Block<'_>, v: VarId) -> bool
     ensures { IsTrue result ↔ IsTooFull m.now s.now.sets (operations_of b.now) v.0 }
 {
     is_time(b, v) && is_full(m, s, b)

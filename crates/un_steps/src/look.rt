@@ -57,7 +57,7 @@ pub fn end(s: &Store, v: VarId) -> u64
 }
 
 /// The least value other than 0 that is left.
-pub fn least_positive(s: &Store, v: VarId) -> Option<u32>
+pub(crate) fn least_positive(s: &Store, v: VarId) -> Option<u32>
     ensures { result ≡ least_of (filter is_positive (set_at s.now.sets v.0)) }
 {
     let end = end(s, v);
@@ -70,7 +70,7 @@ pub fn least_positive(s: &Store, v: VarId) -> Option<u32>
 }
 
 /// Whether a variable, where there is one, cannot be 0.
-pub fn is_never_zero(s: &Store, v: Option<VarId>) -> bool
+pub(crate) fn is_never_zero(s: &Store, v: Option<VarId>) -> bool
     ensures { IsTrue result ↔ IsNeverZero s.now.sets v }
 {
     match v {
@@ -90,7 +90,7 @@ pub fn is_only(s: &Store, v: VarId, y: u32) -> bool
 }
 
 /// Whether a variable, where there is one, is 0.
-pub fn is_zero_alone(s: &Store, v: Option<VarId>) -> bool
+pub(crate) fn is_zero_alone(s: &Store, v: Option<VarId>) -> bool
     ensures { IsTrue result ↔ IsZeroAlone s.now.sets v }
 {
     match v {

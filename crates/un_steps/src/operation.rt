@@ -83,7 +83,7 @@ pub fn temp_vars(m: &Model, x: TempId) -> Option<TempVars>
 }
 
 /// Whether register `r` is left to a temporary.
-pub fn has_reg(m: &Model, s: &Store, x: TempId, r: u32) -> bool
+pub(crate) fn has_reg(m: &Model, s: &Store, x: TempId, r: u32) -> bool
     ensures { result ≡ has (regs m.now s.now.sets x) r }
 {
     match m.temps.as_slice().get(x.0 as usize) {
@@ -123,7 +123,7 @@ fn is_register(m: &Model, x: TempId, v: VarId) -> bool
 }
 
 /// Whether `v` is the register of a result.
-pub fn is_result(m: &Model, p: &Found<'_>, v: VarId) -> bool
+pub(crate) fn is_result(m: &Model, p: &Found<'_>, v: VarId) -> bool
     ensures { result ≡ has (result_vars m.now (operation_of p.now)) v.0 }
 {
     for j in 0..p.op.results.len() {
@@ -148,7 +148,7 @@ fn is_choice(choices: &[VarId], v: VarId) -> bool
 }
 
 /// Whether `v` is a variable of the operation, but not that of its instruction.
-pub fn is_other(m: &Model, p: &Found<'_>, v: VarId) -> bool
+pub(crate) fn is_other(m: &Model, p: &Found<'_>, v: VarId) -> bool
     ensures { result ≡ has (other_vars m.now (operation_of p.now)) v.0 }
 {
     if is_number(p.vars.cycle, v) {
@@ -206,7 +206,7 @@ fn choice_lacks_zero(s: &Store, choices: &[VarId]) -> bool
 }
 
 /// Whether a variable of the operation, but that of its instruction, cannot be 0.
-pub fn other_lacks_zero(m: &Model, s: &Store, p: &Found<'_>) -> bool
+pub(crate) fn other_lacks_zero(m: &Model, s: &Store, p: &Found<'_>) -> bool
     ensures { result ≡ list_any (lacks_zero s.now.sets) (other_vars m.now (operation_of p.now)) }
 {
     if lacks_zero(s, p.vars.cycle) {
@@ -250,7 +250,7 @@ pub fn greatest_cycle(s: &Store, p: &Found<'_>) -> Option<u32>
 }
 
 /// The least cycle in which an operation gives its results.
-pub fn giving_cycle(s: &Store, p: &Found<'_>) -> Option<u32>
+pub(crate) fn giving_cycle(s: &Store, p: &Found<'_>) -> Option<u32>
     ensures { result ≡ least_of (giving_cycles s.now.sets (operation_of p.now)) }
 {
     if p.op.kind.is_in() {
@@ -326,7 +326,7 @@ fn has_some_number(s: &Store, w: Option<VarId>) -> bool
 }
 
 /// Whether an instruction is left to an operation.
-pub fn has_some_instr(s: &Store, p: &Found<'_>) -> bool
+pub(crate) fn has_some_instr(s: &Store, p: &Found<'_>) -> bool
     ensures { IsTrue result ↔ (0 < length (instrs s.now.sets (operation_of p.now))) }
 {
     has_some_number(s, p.vars.instr)

@@ -90,7 +90,7 @@ pub fn space_read(instruction: Option<Op>, j: usize) -> Option<Space>
 }
 
 /// Whether register `r` is left to `v` and lies in a space.
-pub fn is_left_in(s: &Store, v: VarId, r: u32, space: Option<Space>) -> bool
+pub(crate) fn is_left_in(s: &Store, v: VarId, r: u32, space: Option<Space>) -> bool
     ensures { IsTrue result ↔ ((has (set_at s.now.sets v.0) r ≡ true) × InSpace r space) }
 {
     look::has(s, v, r) && in_space(r, space)
@@ -140,7 +140,7 @@ fn spares(m: &Model, s: &Store, p: &Found<'_>, a: &Alternate<'_>, n: u32) -> boo
 }
 
 /// Whether an alternative has no register in the operand's space, whatever the instruction.
-pub fn has_no_space(m: &Model, s: &Store, p: &Found<'_>, a: &Alternate<'_>) -> bool
+pub(crate) fn has_no_space(m: &Model, s: &Store, p: &Found<'_>, a: &Alternate<'_>) -> bool
     ensures { IsTrue result ↔ HasNoSpace m.now s.now.sets (operation_of p.now) (alternative_of a.now) }
 {
     let end = instr_end(s, p);
@@ -241,7 +241,7 @@ fn is_late_from(m: &Model, s: &Store, p: &Found<'_>, d: &Found<'_>, c: u32) -> b
 }
 
 /// Whether what `d` gives is given too late for `p`.
-pub fn is_late_for(m: &Model, s: &Store, p: &Found<'_>, d: &Found<'_>) -> bool
+pub(crate) fn is_late_for(m: &Model, s: &Store, p: &Found<'_>, d: &Found<'_>) -> bool
     ensures { IsTrue result ↔ IsLateFor m.now s.now.sets (operation_of p.now) (operation_of d.now) }
 {
     match giving_cycle(s, d) {

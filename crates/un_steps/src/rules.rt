@@ -56,7 +56,14 @@ fn is_late(s: &Store, to: &Found<'_>, gap: u32, y: u32) -> bool
 }
 
 /// 1: of an arc, cycles too close to its other end.
-pub fn is_too_soon(s: &Store, from: &Found<'_>, to: &Found<'_>, gap: u32, v: VarId, y: u32) -> bool
+pub(crate) fn is_too_soon(
+    s: &Store,
+    from: &Found<'_>,
+    to: &Found<'_>,
+    gap: u32,
+    v: VarId,
+    y: u32,
+) -> bool
     ensures { IsTrue result ↔ IsTooSoon s.now.sets (operation_of from.now) (operation_of to.now) gap v.0 y }
 {
     (is_var(time(to), v) && is_early(s, from, gap, y))
@@ -108,7 +115,7 @@ fn leaves_no_place(s: &Store, p: &Found<'_>, v: VarId, y: u32) -> bool
 }
 
 /// 3: of an operation that is sure, cycles outside its block, and ends that leave it outside.
-pub fn is_outside_block(s: &Store, p: &Found<'_>, v: VarId, y: u32) -> bool
+pub(crate) fn is_outside_block(s: &Store, p: &Found<'_>, v: VarId, y: u32) -> bool
     ensures { IsTrue result ↔ IsOutsideBlock s.now.sets (operation_of p.now) v.0 y }
 {
     !p.op.kind.is_delimiter() && is_sure(s, p) && leaves_no_place(s, p, v, y)
@@ -136,7 +143,7 @@ fn chooses_off(m: &Model, s: &Store, p: &Found<'_>, v: VarId, y: u32) -> bool
 }
 
 /// 4: of an operation that is sure, alternatives whose definer is off.
-pub fn is_from_idle(m: &Model, s: &Store, p: &Found<'_>, v: VarId, y: u32) -> bool
+pub(crate) fn is_from_idle(m: &Model, s: &Store, p: &Found<'_>, v: VarId, y: u32) -> bool
     ensures { IsTrue result ↔ IsFromIdle m.now s.now.sets (operation_of p.now) v.0 y }
 {
     is_sure(s, p) && chooses_off(m, s, p, v, y)
@@ -164,7 +171,7 @@ fn chooses_late(m: &Model, s: &Store, p: &Found<'_>, v: VarId, y: u32) -> bool
 }
 
 /// 5: of an operation that is sure, alternatives that are given too late.
-pub fn is_too_late_for(m: &Model, s: &Store, p: &Found<'_>, v: VarId, y: u32) -> bool
+pub(crate) fn is_too_late_for(m: &Model, s: &Store, p: &Found<'_>, v: VarId, y: u32) -> bool
     ensures { IsTrue result ↔ IsTooLateFor m.now s.now.sets (operation_of p.now) v.0 y }
 {
     is_sure(s, p) && chooses_late(m, s, p, v, y)
@@ -209,7 +216,7 @@ fn is_outside_in(s: &Store, kind: &ExtKind, i: Option<VarId>, y: u32) -> bool
 }
 
 /// 6: of a copy with one instruction, registers outside the space of its result.
-pub fn is_outside_space(m: &Model, s: &Store, p: &Found<'_>, v: VarId, y: u32) -> bool
+pub(crate) fn is_outside_space(m: &Model, s: &Store, p: &Found<'_>, v: VarId, y: u32) -> bool
     ensures { IsTrue result ↔ IsOutsideSpace m.now s.now.sets (operation_of p.now) v.0 y }
 {
     p.op.kind.is_copy() && is_result(m, p, v) && is_outside_in(s, &p.op.kind, p.vars.instr, y)
@@ -233,7 +240,7 @@ fn chooses_no_space(m: &Model, s: &Store, p: &Found<'_>, v: VarId, y: u32) -> bo
 }
 
 /// 7: of an operation that is sure, alternatives without a register in the operand's space.
-pub fn is_no_space(m: &Model, s: &Store, p: &Found<'_>, v: VarId, y: u32) -> bool
+pub(crate) fn is_no_space(m: &Model, s: &Store, p: &Found<'_>, v: VarId, y: u32) -> bool
     ensures { IsTrue result ↔ IsNoSpace m.now s.now.sets (operation_of p.now) v.0 y }
 {
     !is_out(&p.op.kind) && is_sure(s, p) && chooses_no_space(m, s, p, v, y)
@@ -250,7 +257,7 @@ fn is_away(m: &Model, s: &Store, x: TempId, home: Option<Reg>) -> bool
 }
 
 /// 9: of an operand with a home, alternatives that cannot be there.
-pub fn is_not_home(m: &Model, s: &Store, p: &Found<'_>, v: VarId, y: u32) -> bool
+pub(crate) fn is_not_home(m: &Model, s: &Store, p: &Found<'_>, v: VarId, y: u32) -> bool
     ensures { IsTrue result ↔ IsNotHome m.now s.now.sets (operation_of p.now) v.0 y }
 {
     match alternative(p, v, y) {
@@ -317,7 +324,7 @@ fn is_frameless_in(m: &Model, s: &Store, i: Option<VarId>, v: VarId, y: u32) -> 
 }
 
 /// 12: without a frame, the instructions of a copy that access it; and that there is none, where a copy has these alone.
-pub fn is_no_frame(m: &Model, s: &Store, p: &Found<'_>, v: VarId, y: u32) -> bool
+pub(crate) fn is_no_frame(m: &Model, s: &Store, p: &Found<'_>, v: VarId, y: u32) -> bool
     ensures { IsTrue result ↔ IsNoFrame m.now s.now.sets (operation_of p.now) v.0 y }
 {
     p.op.kind.is_copy() && is_frameless_in(m, s, p.vars.instr, v, y)
@@ -599,7 +606,7 @@ fn chooses_alike(m: &Model, s: &Store, p: &Found<'_>, v: VarId, y: u32) -> bool
 }
 
 /// 8: of an operation that every solution issues, alternatives beside which another operand finds no register.
-pub fn is_alike(m: &Model, s: &Store, p: &Found<'_>, v: VarId, y: u32) -> bool
+pub(crate) fn is_alike(m: &Model, s: &Store, p: &Found<'_>, v: VarId, y: u32) -> bool
     ensures { IsTrue result ↔ IsAlike m.now s.now.sets (operation_of p.now) v.0 y }
 {
     p.op.kind.is_mandatory() && chooses_alike(m, s, p, v, y)
@@ -688,7 +695,7 @@ fn chooses_elsewhere(m: &Model, s: &Store, p: &Found<'_>, v: VarId, y: u32) -> b
 }
 
 /// 10: of `out`, alternatives that share no register with what a successor takes in their place.
-pub fn is_not_congruent(m: &Model, s: &Store, p: &Found<'_>, v: VarId, y: u32) -> bool
+pub(crate) fn is_not_congruent(m: &Model, s: &Store, p: &Found<'_>, v: VarId, y: u32) -> bool
     ensures { IsTrue result ↔ IsNotCongruent m.now s.now.sets (operation_of p.now) v.0 y }
 {
     is_out(&p.op.kind) && chooses_elsewhere(m, s, p, v, y)
@@ -750,7 +757,7 @@ fn is_dear(m: &Model, limit: Option<u64>, s: &Store, v: VarId, y: u32) -> bool
 }
 
 /// 11: with a limit, ends of a block that with the least ends of the others cost it.
-pub fn is_too_dear(
+pub(crate) fn is_too_dear(
     m: &Model,
     limit: Option<u64>,
     s: &Store,

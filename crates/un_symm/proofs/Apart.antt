@@ -9,7 +9,7 @@ use Rattle.un_model.specs.declared.model.TempVars.{TempVars}
 use Rattle.un_model.specs.declared.model.BlockVars.{BlockVars}
 use Rattle.un_model.specs.Variables.{register_place, var_count, var_at, ops_count, block_vars, block_count, blocks_vars, blocks_count}
 use Rattle.un_model.specs.Variables.{blocks_temps}
-use Rattle.un_model.proofs.Lists.{Each, Pairwise, Member, each_member, each_of, each_join, member_map_of, length_get, any_of, pairwise_two}
+use Rattle.un_lists.proofs.Lists.{Each, Pairwise, Member, each_member, each_of, each_join, member_map_of, length_get, any_of, pairwise_two}
 use Rattle.un_model.proofs.Placed.{Placed, placed, block_placed, blocks_placed, Spot, spot, spots_of, all_spots, temp_vars, temps_are}
 use Rattle.un_model.proofs.PlacedSchedules.{joined_member, places_member}
 use Rattle.un_symm.specs.Exchanges.{is_register_of}

@@ -22,8 +22,8 @@ use Rattle.un_model.specs.Congruences.{live_out_reads, register_of, register_rea
 use Rattle.un_model.specs.Solutions.{Gap, IsZeroRange, KeepsZeros, IsLive, KeepsChoices, InSpace, ReadsInSpace, IsGivenInSpace, KeepsSpaces}
 use Rattle.un_model.specs.Solutions.{LeavesGap, KeepsLatencies, ShareNoCycle, SparesRange, IsSpared, KeepsRegisters, HasHome, ReadsHome}
 use Rattle.un_model.specs.Solutions.{KeepsHomes, uses_frame, is_frame_access, starts_in_slot, KeepsFrame}
-use Rattle.un_model.proofs.Lists.{Each, Pairwise, Member, each_member, each_all, each_of, each_map, pairwise_all, pairwise_map}
-use Rattle.un_model.proofs.Lists.{pairwise_more, slice_get-map}
+use Rattle.un_lists.proofs.Lists.{Each, Pairwise, Member, each_member, each_all, each_of, each_map, pairwise_all, pairwise_map}
+use Rattle.un_lists.proofs.Lists.{pairwise_more, slice_get-map}
 use Rattle.un_symm.specs.Exchanges.{exchanged}
 use Rattle.un_symm.proofs.SlotTests.{slot_alike}
 use Rattle.un_symm.proofs.Values.{stays_by, exchanged_other, exchanged_back, exchanged_zero}

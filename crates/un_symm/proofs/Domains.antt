@@ -9,7 +9,7 @@ use Rattle.un_domains.specs.declared.domain.Domain.TheVariants.{Range, Set}
 use Rattle.un_domains.specs.Domains.{values_of}
 use Rattle.un_domains.specs.Sets.{set_at, has}
 use Rattle.un_model.specs.Solutions.{InDomain}
-use Rattle.un_model.proofs.Lists.{Member}
+use Rattle.un_lists.proofs.Lists.{Member}
 use Rattle.un_model.proofs.Operations.{contains_member}
 use Rattle.un_symm.proofs.Tests.{any_at}
 

@@ -37,7 +37,7 @@ use Rattle.un_model.specs.Schedules.{ranges_of, issues_of, reads_of, schedule_of
 use Rattle.un_model.specs.Solutions.{InDomain, KeepsDomains, IsSchedule, IsSolution, latency_gap, KeepsFrame}
 use Rattle.un_model.specs.Variables.{IsModel, model_of, var_at, var_if, has_cycle, count_if, cycle_place, choice_place, register_place}
 use Rattle.un_model.specs.Variables.{chosen_operands, blocks_count, var_count, ops_count, block_count}
-use Rattle.un_model.proofs.Lists.{Each, Member, each_of, any_of, member_at}
+use Rattle.un_lists.proofs.Lists.{Each, Member, each_of, any_of, member_at}
 use Rattle.un_model.proofs.Placed.{Placed, placed, block_placed, blocks_placed, vars_of, end_of, issue_at, reads_at, issues_are, reads_are}
 use Rattle.un_model.proofs.PlacedSchedules.{split_member, joined_member, places_member}
 use Rattle.un_symm.specs.Exchanges.{exchanged, is_register_of, exchanged_at, exchanged_values, exchange_of}

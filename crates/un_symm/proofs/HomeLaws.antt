@@ -14,7 +14,7 @@ use Rattle.un_ir.specs.declared.extended.ExtBlock.{ExtBlock}
 use Rattle.un_model.specs.declared.model.Model.{Model}
 use Rattle.un_model.specs.Pairs.{any_from}
 use Rattle.un_model.specs.Registers.{is_register, reads_value, result_home, is_operand_home, is_result_home, is_home}
-use Rattle.un_model.proofs.Lists.{Member, each_member, each_all, any_of, place_of, member_at, get_below, length_get}
+use Rattle.un_lists.proofs.Lists.{Member, each_member, each_all, any_of, place_of, member_at, get_below, length_get}
 use Rattle.un_model.proofs.PlacedSchedules.{get_range}
 use Rattle.un_model.proofs.Readings.{zip_get}
 use Rattle.un_symm.specs.Interchangeable.{reads_home, gives_home, is_home_at, is_home_in_block, is_home_in}

@@ -2,7 +2,7 @@
 use Rattle.std.proofs.Common.{◌≡◌, Bool, true, false, List, [], ◌∷◌, ◌⊎◌, inl, inr, refl, ap, ◌∙◌}
 use Rattle.std.specs.Prelude.{◌||◌}
 use Rattle.std.specs.List.{list_any}
-use Rattle.un_model.proofs.Lists.{Member}
+use Rattle.un_lists.proofs.Lists.{Member}
 
 pub false_by : (k : Bool) → (k ≡ true → ⊥) → k ≡ false
 false_by true h = absurd (h refl)

@@ -7,8 +7,8 @@ use Rattle.un_isa.specs.declared.reg.Reg.{Reg}
 use Rattle.un_symtree.specs.declared.node.SymNode.{SymNode}
 use Rattle.un_symtree.specs.declared.node.SymNode.TheVariants.{Branch, Closed, Mirror}
 use Rattle.un_symtree.specs.SymTexts.{SymFits, sym_line}
-use Rattle.un_tree.specs.Texts.{IsCut}
-use Rattle.un_tree.proofs.Cuts.{cut_once, cut_none, cut_parts}
+use Rattle.un_base.specs.Lines.{IsCut}
+use Rattle.un_base.proofs.Cuts.{cut_once, cut_none, cut_parts}
 use Rattle.un_tree.proofs.NodeLines.{digits_apart}
 
 all_append : (P : ℕ → Type 0) (xs ys : List ℕ) → AllByRecursion P xs → AllByRecursion P ys → AllByRecursion P (xs ++ ys)

@@ -5,8 +5,8 @@ use Rattle.std.specs.List.{AllByRecursion}
 use Rattle.un_symtree.specs.declared.node.SymNode.{SymNode}
 use Rattle.un_symtree.specs.SymTexts.{SymFits, sym_line, sym_text, BeginsNoSymNode}
 use Rattle.un_symtree.proofs.SymLines.{sym_free, sym_line_once, NoSymLine}
-use Rattle.un_tree.specs.Texts.{IsCut}
-use Rattle.un_tree.proofs.Cuts.{cut_once, cut_none, cut_parts}
+use Rattle.un_base.specs.Lines.{IsCut}
+use Rattle.un_base.proofs.Cuts.{cut_once, cut_none, cut_parts}
 
 -- a text that begins with two nodes' lines begins with one node's
 pub sym_first_once : (n m : SymNode) (rest rest' : List ℕ) → SymFits n → SymFits m → sym_line n ++ 10 ∷ rest ≡ sym_line m ++ 10 ∷ rest'

@@ -5,9 +5,10 @@ ghost use Rattle.un_symtree.specs.declared.node.SymNode.{SymNode};
 ghost use Rattle.un_symtree.specs.SymTexts.{SymFits, sym_line};
 
 use crate::node::SymNode;
+use un_base::decimal::number_of;
 use un_base::ids::VarId;
+use un_base::lines::cut;
 use un_isa::reg::Reg;
-use un_tree::line::{cut, number_of};
 
 /// The two numbers of 32 bits whose texts these are, with a space between.
 fn pair_of(text: &[u8]) -> Option<(u32, u32)>

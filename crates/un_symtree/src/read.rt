@@ -4,7 +4,7 @@ ghost use Rattle.un_symtree.specs.SymTexts.{IsSymStep};
 
 use crate::line::sym_node_of;
 use crate::node::SymNode;
-use un_tree::line::cut;
+use un_base::lines::cut;
 
 /// The first line of a text of nodes.
 #[derive(Clone, Copy)]

@@ -35,7 +35,7 @@ pub fn target_on(row: &Row<'_>) -> Option<Name> {
 }
 
 /// The line of the first block with this label.
-pub fn block_named<'r, 'a>(rows: &'r [Row<'a>], label: &Name) -> Option<&'r Row<'a>> {
+pub(crate) fn block_named<'r, 'a>(rows: &'r [Row<'a>], label: &Name) -> Option<&'r Row<'a>> {
     rows.iter().find(|row| match label_on(row) {
         Some(other) => other.as_bytes() == label.as_bytes(),
         None => false,
@@ -43,7 +43,11 @@ pub fn block_named<'r, 'a>(rows: &'r [Row<'a>], label: &Name) -> Option<&'r Row<
 }
 
 /// What is said of a label that stands on an earlier block line.
-pub fn twice_lesson(alloc: Global, rows: &[Row<'_>], row: &Row<'_>) -> Result<Lesson, NoMemory> {
+pub(crate) fn twice_lesson(
+    alloc: Global,
+    rows: &[Row<'_>],
+    row: &Row<'_>,
+) -> Result<Lesson, NoMemory> {
     let place = at_word(row, 1);
     let earlier = match label_on(row) {
         Some(label) => block_named(rows, &label),
@@ -93,7 +97,11 @@ fn unknown_among(
 }
 
 /// What is said of a jump to no block.
-pub fn outside_lesson(alloc: Global, rows: &[Row<'_>], row: &Row<'_>) -> Result<Lesson, NoMemory> {
+pub(crate) fn outside_lesson(
+    alloc: Global,
+    rows: &[Row<'_>],
+    row: &Row<'_>,
+) -> Result<Lesson, NoMemory> {
     let place = match row.words().last() {
         Some(word) => at(row, word),
         None => behind(row),
@@ -111,7 +119,7 @@ pub fn outside_lesson(alloc: Global, rows: &[Row<'_>], row: &Row<'_>) -> Result<
 }
 
 /// What is said of a jump to the entry.
-pub fn entry_lesson(alloc: Global, row: &Row<'_>) -> Result<Lesson, NoMemory> {
+pub(crate) fn entry_lesson(alloc: Global, row: &Row<'_>) -> Result<Lesson, NoMemory> {
     let place = match row.words().last() {
         Some(word) => at(row, word),
         None => behind(row),
@@ -124,7 +132,7 @@ pub fn entry_lesson(alloc: Global, row: &Row<'_>) -> Result<Lesson, NoMemory> {
 }
 
 /// What is said of a line that stands before the first block line.
-pub fn early_lesson(alloc: Global, row: &Row<'_>) -> Result<Lesson, NoMemory> {
+pub(crate) fn early_lesson(alloc: Global, row: &Row<'_>) -> Result<Lesson, NoMemory> {
     let wrong = format!(in alloc; "there is no block line before this line");
     told(
         whole(row),
@@ -134,7 +142,7 @@ pub fn early_lesson(alloc: Global, row: &Row<'_>) -> Result<Lesson, NoMemory> {
 }
 
 /// What is said of a text that has no block line.
-pub fn blockless_lesson(alloc: Global, rows: &[Row<'_>]) -> Result<Lesson, NoMemory> {
+pub(crate) fn blockless_lesson(alloc: Global, rows: &[Row<'_>]) -> Result<Lesson, NoMemory> {
     let place = Place {
         line: rows.len().saturating_add(1),
         column: 0,
@@ -164,7 +172,11 @@ fn term_before<'r, 'a>(rows: &'r [Row<'a>], row: &Row<'_>) -> Option<&'r Row<'a>
 }
 
 /// What is said of a line behind the end of its block.
-pub fn late_lesson(alloc: Global, rows: &[Row<'_>], row: &Row<'_>) -> Result<Lesson, NoMemory> {
+pub(crate) fn late_lesson(
+    alloc: Global,
+    rows: &[Row<'_>],
+    row: &Row<'_>,
+) -> Result<Lesson, NoMemory> {
     let number = match term_before(rows, row) {
         Some(term) => term.number,
         None => 0,
@@ -189,7 +201,11 @@ fn last_row<'r, 'a>(rows: &'r [Row<'a>]) -> Option<&'r Row<'a>> {
 }
 
 /// What is said of a last block that does not end.
-pub fn open_lesson(alloc: Global, rows: &[Row<'_>], row: &Row<'_>) -> Result<Lesson, NoMemory> {
+pub(crate) fn open_lesson(
+    alloc: Global,
+    rows: &[Row<'_>],
+    row: &Row<'_>,
+) -> Result<Lesson, NoMemory> {
     let last = last_row(rows).unwrap_or(row);
     let number = last.number;
     let branches = matches!(term_on(last), Some(TermLine::Branch { .. }));
@@ -219,7 +235,11 @@ fn value_on(row: &Row<'_>) -> Option<bool> {
 }
 
 /// What is said of a return in another form than the first one.
-pub fn mixed_lesson(alloc: Global, rows: &[Row<'_>], row: &Row<'_>) -> Result<Lesson, NoMemory> {
+pub(crate) fn mixed_lesson(
+    alloc: Global,
+    rows: &[Row<'_>],
+    row: &Row<'_>,
+) -> Result<Lesson, NoMemory> {
     let first = rows
         .iter()
         .find(|row| value_on(row).is_some())

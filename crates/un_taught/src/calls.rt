@@ -59,7 +59,7 @@ fn arguments_lesson(alloc: Global, row: &Row<'_>, from: usize) -> Result<Lesson,
 }
 
 /// What is said of a line with a call, whose word stands at a place of the line.
-pub fn call_lesson(alloc: Global, row: &Row<'_>, place: usize) -> Result<Lesson, NoMemory> {
+pub(crate) fn call_lesson(alloc: Global, row: &Row<'_>, place: usize) -> Result<Lesson, NoMemory> {
     let callee = place.saturating_add(1);
     let Some(word) = row.words().get(callee) else {
         let wrong = format!(in alloc; "the name of the function that is called is missing");

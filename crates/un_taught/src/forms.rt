@@ -70,7 +70,7 @@ pub fn form_of(op: Op) -> &'static str {
 }
 
 /// How a line that begins with this word is written, where the word may begin one or stand behind an equals sign.
-pub fn form_of_head(word: &[u8]) -> &'static str {
+pub(crate) fn form_of_head(word: &[u8]) -> &'static str {
     match word {
         b"func" => "func NAME %p %q",
         b"block" => "block LABEL freq N",
@@ -85,7 +85,7 @@ pub fn form_of_head(word: &[u8]) -> &'static str {
 }
 
 /// The operation of this name.
-pub fn operation_named(word: &[u8]) -> Option<Op> {
+pub(crate) fn operation_named(word: &[u8]) -> Option<Op> {
     OPERATIONS
         .iter()
         .copied()

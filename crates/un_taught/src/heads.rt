@@ -315,7 +315,7 @@ fn strange_lesson(alloc: Global, row: &Row<'_>, word: &Word<'_>) -> Result<Lesso
 }
 
 /// What is said of a line that has no form.
-pub fn head_lesson(alloc: Global, row: &Row<'_>) -> Result<Lesson, NoMemory> {
+pub(crate) fn head_lesson(alloc: Global, row: &Row<'_>) -> Result<Lesson, NoMemory> {
     let Some(first) = row.words().first() else {
         let wrong = format!(in alloc; "the line has none of the forms of a line");
         return told(

@@ -60,7 +60,7 @@ pub fn behind(row: &Row<'_>) -> Place {
 }
 
 /// The place of the word of this number in a line, or behind its words where there are fewer.
-pub fn at_word(row: &Row<'_>, number: usize) -> Place {
+pub(crate) fn at_word(row: &Row<'_>, number: usize) -> Place {
     match row.words().get(number) {
         Some(word) => at(row, word),
         None => behind(row),

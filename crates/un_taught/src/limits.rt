@@ -19,7 +19,7 @@ const WHOLE: Place = Place {
 };
 
 /// What is said of a text that is too long.
-pub fn long_lesson(alloc: Global, text: &[u8]) -> Result<Lesson, NoMemory> {
+pub(crate) fn long_lesson(alloc: Global, text: &[u8]) -> Result<Lesson, NoMemory> {
     let bytes = text.len();
     let over = bytes.saturating_sub(TEXT);
     let wrong = format!(in alloc; "the text has more than {TEXT} bytes");
@@ -125,7 +125,11 @@ fn names_lesson(alloc: Global, rows: &[Row<'_>], row: &Row<'_>) -> Result<Lesson
 }
 
 /// What is said of what there is too much of, at the first line with it.
-pub fn many_lesson(alloc: Global, rows: &[Row<'_>], row: &Row<'_>) -> Result<Lesson, NoMemory> {
+pub(crate) fn many_lesson(
+    alloc: Global,
+    rows: &[Row<'_>],
+    row: &Row<'_>,
+) -> Result<Lesson, NoMemory> {
     if given(row) > PARAMS as usize {
         return seventh_lesson(alloc, row);
     }

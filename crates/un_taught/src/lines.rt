@@ -23,7 +23,7 @@ fn strange_byte(line: &[u8]) -> Option<(usize, u8)> {
 }
 
 /// What is said of a byte that may not stand in a line.
-pub fn byte_lesson(alloc: Global, row: &Row<'_>) -> Result<Lesson, NoMemory> {
+pub(crate) fn byte_lesson(alloc: Global, row: &Row<'_>) -> Result<Lesson, NoMemory> {
     let help = format!(in alloc;
         "before a comment a line has tabs and the printable characters of ASCII alone"
     );
@@ -50,7 +50,7 @@ pub fn byte_lesson(alloc: Global, row: &Row<'_>) -> Result<Lesson, NoMemory> {
 }
 
 /// What is said of a frequency.
-pub fn freq_lesson(alloc: Global, row: &Row<'_>) -> Result<Lesson, NoMemory> {
+pub(crate) fn freq_lesson(alloc: Global, row: &Row<'_>) -> Result<Lesson, NoMemory> {
     let wrong = format!(in alloc; "a frequency is 1 to 1000000");
     let help = format!(in alloc;
         "write how often the block is entered for each run of the function, and at least 1: only their ratios count"
@@ -74,7 +74,7 @@ fn repeated(row: &Row<'_>) -> Option<usize> {
 }
 
 /// What is said of a `func` line that stands in another place than first or repeats a parameter, or of another first line.
-pub fn misplaced_lesson(
+pub(crate) fn misplaced_lesson(
     alloc: Global,
     rows: &[Row<'_>],
     row: &Row<'_>,
@@ -180,7 +180,7 @@ fn clashing(row: &Row<'_>, line: &Line) -> Option<(usize, Kind)> {
 }
 
 /// What is said of a name that is not of the kind of its place.
-pub fn clash_lesson(alloc: Global, row: &Row<'_>) -> Result<Lesson, NoMemory> {
+pub(crate) fn clash_lesson(alloc: Global, row: &Row<'_>) -> Result<Lesson, NoMemory> {
     let found = match &row.line {
         Some(line) => clashing(row, line),
         None => None,

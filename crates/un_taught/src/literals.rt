@@ -72,7 +72,7 @@ fn read_hexadecimal(word: &[u8]) -> Option<u64> {
 }
 
 /// What is said of a word where an operation has its literal.
-pub fn literal_lesson(
+pub(crate) fn literal_lesson(
     alloc: Global,
     row: &Row<'_>,
     word: &Word<'_>,
@@ -108,7 +108,7 @@ fn literal_in(row: &Row<'_>) -> Option<usize> {
 }
 
 /// What is said of a number that does not fit its operation.
-pub fn wide_lesson(alloc: Global, row: &Row<'_>) -> Result<Lesson, NoMemory> {
+pub(crate) fn wide_lesson(alloc: Global, row: &Row<'_>) -> Result<Lesson, NoMemory> {
     let (Some(Line::Operation(line)), Some(place)) = (&row.line, literal_in(row)) else {
         let wrong = format!(in alloc; "the number does not fit its operation");
         return told(whole(row), wrong, format!(in alloc; "write one that does"));

@@ -49,7 +49,11 @@ fn heads(alloc: Global) -> Result<Vec<&'static [u8]>, AllocError> {
 }
 
 /// What is said of a word that is no operation.
-pub fn unknown_lesson(alloc: Global, row: &Row<'_>, word: &Word<'_>) -> Result<Lesson, NoMemory> {
+pub(crate) fn unknown_lesson(
+    alloc: Global,
+    row: &Row<'_>,
+    word: &Word<'_>,
+) -> Result<Lesson, NoMemory> {
     let place = at(row, word);
     let wrong = format!(in alloc; "there is no operation `{word}`");
     if let Some(other) = stand_in(word.text) {
@@ -239,7 +243,7 @@ fn apart_lesson(
 }
 
 /// What is said of a line with this operation, whose word stands at a place of the line.
-pub fn operation_lesson(
+pub(crate) fn operation_lesson(
     alloc: Global,
     row: &Row<'_>,
     op: Op,

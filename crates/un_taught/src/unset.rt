@@ -186,7 +186,11 @@ fn use_lesson(
 }
 
 /// What is said of a name that may be used before it is assigned: of the first line with such a use.
-pub fn unset_lesson(alloc: Global, rows: &[Row<'_>], entry: &Row<'_>) -> Result<Lesson, NoMemory> {
+pub(crate) fn unset_lesson(
+    alloc: Global,
+    rows: &[Row<'_>],
+    entry: &Row<'_>,
+) -> Result<Lesson, NoMemory> {
     for row in rows {
         if let Some((place, name)) = unset_word(alloc, rows, row)? {
             return use_lesson(alloc, row, place, &name);

@@ -20,7 +20,7 @@ pub struct Word<'a> {
 pub struct Shown<'a>(pub &'a [u8]);
 
 /// A name without its sigil, as it is shown.
-pub fn as_shown(name: &Name) -> Shown<'_> {
+pub(crate) fn as_shown(name: &Name) -> Shown<'_> {
     Shown(name.as_bytes())
 }
 

@@ -177,7 +177,7 @@ pub(crate) fn check_by(
 /// # Errors
 /// `TextFault` with the first fault of the function's text; `BadSecond` with the first bad line of the report; `NoMemory` where there is no
 /// memory for the check.
-pub fn check_input(alloc: Global, input: &[u8]) -> Result<Output, Refused>
+pub(crate) fn check_input(alloc: Global, input: &[u8]) -> Result<Output, Refused>
     ensures ok { IfOk result (λ out. IsCheck input.now out.status out.text.items) }
     ensures written { IfOk result (λ out. IsWritten out.status) }
     ensures refused { IfErr result (RefusesCheck input.now) }

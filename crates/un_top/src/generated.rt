@@ -133,7 +133,12 @@ fn searched(
 ///
 /// # Errors
 /// `NoMemory` where there is no memory for the search or the code.
-pub fn generated_report(alloc: Global, seed: u64, size: u32, nodes: u32) -> Result<Output, NoMemory>
+pub(crate) fn generated_report(
+    alloc: Global,
+    seed: u64,
+    size: u32,
+    nodes: u32,
+) -> Result<Output, NoMemory>
     requires { IsRanged (Command.Makes (MakingCommand.GenerateAlloc seed size nodes)) }
     ensures report { IfOk result (λ out. IsGeneratedReport seed size nodes out.status out.text.items) }
     ensures written { IfOk result (λ out. IsWritten out.status) }

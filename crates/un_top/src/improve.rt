@@ -151,7 +151,11 @@ fn improve_of(
 /// # Errors
 /// `TextFault` with the first fault of the function's text; `BadSecond` with the first bad line of the numbers; `NoMemory` where there is no
 /// memory for the search.
-pub fn improve_input(alloc: Global, input: &[u8], options: SearchOptions) -> Result<Output, Refused>
+pub(crate) fn improve_input(
+    alloc: Global,
+    input: &[u8],
+    options: SearchOptions,
+) -> Result<Output, Refused>
     requires options { AreSearchOptions options }
     ensures ok { IfOk result
         (λ out. IsImprovement (table_of LAST) (model_options options) options.nodes input.now out.status out.text.items) }

@@ -21,7 +21,7 @@ pub struct Output {
 }
 
 /// How a run ends that writes a report with this answer.
-pub fn status_of(answer: &Answered) -> Status
+pub(crate) fn status_of(answer: &Answered) -> Status
     ensures is { result ≡ status_of answer.now }
     ensures written { IsWritten result }
 {

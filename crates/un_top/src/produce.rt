@@ -315,7 +315,11 @@ fn make(alloc: Global, command: MakingCommand) -> Result<Output, Status>
 }
 
 /// Looks at the words, reads the input and makes the output. Nothing is read where the words are no command, or one that reads nothing.
-pub fn produce<S: Source>(alloc: Global, words: &[Word], src: &mut S) -> Result<Output, Status>
+pub(crate) fn produce<S: Source>(
+    alloc: Global,
+    words: &[Word],
+    src: &mut S,
+) -> Result<Output, Status>
     ensures ok { IfOk result (λ out. IfSome (S.left src.old) (λ text. IsOutputOf words.now text out.status out.text.items)) }
     ensures written { IfOk result (λ out. IsWritten out.status) }
     ensures ends { IfOk result (λ out. EndsSo words.now out.status) }

@@ -28,7 +28,7 @@ fn exit_by(status: Status) -> ExitCode
 
 /// Runs the program on the words that it has, over an outside, and exits with the number of its status. Where there was no memory for the
 /// words, that is said on `err`.
-pub fn run_on<S: Source, K: Sink, E: Sink>(
+pub(crate) fn run_on<S: Source, K: Sink, E: Sink>(
     alloc: Global,
     words: Result<Vec<Word>, NoMemory>,
     src: &mut S,

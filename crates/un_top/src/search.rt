@@ -104,7 +104,7 @@ fn code_report(
 ///
 /// # Errors
 /// `NoMemory` where there is no memory for the search or the code.
-pub fn report_from(
+pub(crate) fn report_from(
     alloc: Global,
     f: &Function,
     m: &Model,

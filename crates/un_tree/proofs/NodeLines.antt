@@ -5,8 +5,9 @@ use Rattle.std.proofs.lemmas.Fmt.{decimal_by_steps, decimal_injective}
 use Rattle.un_base.specs.declared.ids.VarId.{VarId}
 use Rattle.un_tree.specs.declared.node.Node.{Node}
 use Rattle.un_tree.specs.declared.node.Node.TheVariants.{Branch, Closed, Open}
-use Rattle.un_tree.specs.Texts.{Fits, node_line, IsCut}
-use Rattle.un_tree.proofs.Cuts.{cut_once, cut_none, cut_parts}
+use Rattle.un_tree.specs.Texts.{Fits, node_line}
+use Rattle.un_base.specs.Lines.{IsCut}
+use Rattle.un_base.proofs.Cuts.{cut_once, cut_none, cut_parts}
 
 all_append : (P : ℕ → Type 0) (xs ys : List ℕ) → AllByRecursion P xs → AllByRecursion P ys → AllByRecursion P (xs ++ ys)
 all_append P [] ys a b = b

@@ -2,10 +2,11 @@
 use Rattle.std.proofs.Common.{◌≡◌, ◌≢◌, ℕ, ◌⊎◌, inl, inr, List, [], ◌∷◌, ◌++◌, All, length, false, refl, sym, ap, ◌∙◌, append_assoc}
 use Rattle.std.specs.List.{AllByRecursion}
 use Rattle.un_tree.specs.declared.node.Node.{Node}
-use Rattle.un_tree.specs.Texts.{Fits, node_line, tree_text, BeginsNoNode, IsCut}
+use Rattle.un_tree.specs.Texts.{Fits, node_line, tree_text, BeginsNoNode}
+use Rattle.un_base.specs.Lines.{IsCut}
 use Rattle.std.specs.Bool.{◌==◌}
 use Rattle.std.proofs.lemmas.List.Elements.{recursion_from_All}
-use Rattle.un_tree.proofs.Cuts.{cut_once, cut_none, cut_parts}
+use Rattle.un_base.proofs.Cuts.{cut_once, cut_none, cut_parts}
 use Rattle.un_tree.proofs.NodeLines.{line_free, line_once}
 
 -- a text that begins with two nodes' lines begins with one node's

@@ -25,11 +25,6 @@ node_line Open = codes "O"
 abbrev pub tree_text : List Node → List ℕ
 tree_text nodes = joined_lines (map node_line nodes)
 
--- what stands before the first byte b, and what stands behind it
-pub record IsCut (text : List ℕ) (b : ℕ) (first rest : List ℕ) : Type 0 where
-  pub whole : text ≡ first ++ b ∷ rest
-  pub none : All (λ y. y ≢ b) first
-
 -- no node's line is the first line of the text
 abbrev pub BeginsNoNode : List ℕ → Type 0
 BeginsNoNode text = (n : Node) (rest : List ℕ) → Fits n → text ≢ node_line n ++ 10 ∷ rest

@@ -1,26 +1,14 @@
 //! The line of a node, read, and its parts.
 
-ghost use Rattle.std.specs.Prelude.{◌≡◌, ◌≢◌, ℕ, ◌<◌, ◌^◌, List, ◌∷◌, ◌++◌, All, IfSome, IfNone, codes, decimal};
+ghost use Rattle.std.specs.Prelude.{◌≡◌, ◌≢◌, ℕ, ◌<◌, ◌^◌, List, ◌∷◌, ◌++◌, IfSome, IfNone, codes, decimal};
 ghost use Rattle.un_base.specs.declared.ids.VarId.{VarId};
 ghost use Rattle.un_tree.specs.declared.node.Node.{Node};
-ghost use Rattle.un_tree.specs.Texts.{Fits, node_line, IsCut};
+ghost use Rattle.un_tree.specs.Texts.{Fits, node_line};
 
 use crate::node::Node;
-use un_base::decimal::read_decimal;
+use un_base::decimal::number_of;
 use un_base::ids::VarId;
-
-/// What stands before the first byte `b`, and what stands behind it.
-pub fn cut(text: &[u8], b: u8) -> Option<(&[u8], &[u8])>
-    ensures some { IfSome result (λ parts. IsCut text.now b parts.0.now parts.1.now) }
-    ensures none { IfNone result (All (λ y. y ≢ b) text.now) }
-{
-    for (i, y) in text.iter().enumerate() {
-        if *y == b {
-            return Some((&text[..i], &text[i + 1..]));
-        }
-    }
-    None
-}
+use un_base::lines::cut;
 
 /// What stands behind these first bytes.
 fn behind<'a>(line: &'a [u8], start: &[u8]) -> Option<&'a [u8]>
@@ -28,17 +16,6 @@ fn behind<'a>(line: &'a [u8], start: &[u8]) -> Option<&'a [u8]>
     ensures none { IfNone result ((rest : List ℕ) → line.now ≢ start.now ++ rest) }
 {
     line.strip_prefix(start)
-}
-
-/// The number of 32 bits whose decimal text this is.
-pub fn number_of(text: &[u8]) -> Option<u32>
-    ensures some { IfSome result (λ n. text.now ≡ decimal n) }
-    ensures none { IfNone result ((n : ℕ) → n < 2 ^ 32 → text.now ≢ decimal n) }
-{
-    match u32::try_from(read_decimal(text)?) {
-        Ok(n) => Some(n),
-        Err(_) => None,
-    }
 }
 
 /// The Branch with these numbers.

@@ -4,9 +4,10 @@ ghost use Rattle.std.specs.Prelude.{◌≡◌, ◌++◌, ◌∷◌, [], List, Al
 ghost use Rattle.un_tree.specs.declared.node.Node.{Node};
 ghost use Rattle.un_tree.specs.Texts.{Fits, tree_text, IsStep, IsErrorOf, IsReadBack};
 
-use crate::line::{cut, node_of};
+use crate::line::node_of;
 use crate::node::{Node, Tree};
 use std::alloc::{AllocError, Global};
+use un_base::lines::cut;
 use un_base::memory_error::NoMemory;
 use un_base::numbers::number;
 

@@ -7,7 +7,7 @@ use un_ir::extended::{FROM_PREDICATE, MOVE, RELOAD, SPILL, TO_PREDICATE};
 use un_isa::op::Op;
 
 /// The instruction of a copy between two spaces.
-pub fn copy_instruction(from: Space, to: Space) -> Option<u32> {
+pub(crate) fn copy_instruction(from: Space, to: Space) -> Option<u32> {
     match (from, to) {
         (Space::General, Space::General) => Some(MOVE),
         (Space::General, Space::Slot) => Some(SPILL),

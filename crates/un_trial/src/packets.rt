@@ -31,10 +31,10 @@ pub struct Share {
 }
 
 /// Nothing.
-pub const NO_SHARE: Share = Share { bits: 0 };
+pub(crate) const NO_SHARE: Share = Share { bits: 0 };
 
 /// What an instruction needs that needs nothing but its place.
-pub const ONE_PLACE: Share = Share {
+pub(crate) const ONE_PLACE: Share = Share {
     bits: 1 << (LANE * Resource::Instructions as u32),
 };
 

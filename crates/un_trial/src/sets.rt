@@ -26,15 +26,15 @@ pub struct RegisterMask {
 }
 
 /// No register.
-pub const NO_REGISTERS: RegisterMask = RegisterMask { bits: 0 };
+pub(crate) const NO_REGISTERS: RegisterMask = RegisterMask { bits: 0 };
 /// All registers.
-pub const ALL_REGISTERS: RegisterMask = RegisterMask {
+pub(crate) const ALL_REGISTERS: RegisterMask = RegisterMask {
     bits: REGISTER_BITS,
 };
 /// The general registers.
-pub const GENERAL_REGISTERS: RegisterMask = RegisterMask { bits: GENERAL_BITS };
+pub(crate) const GENERAL_REGISTERS: RegisterMask = RegisterMask { bits: GENERAL_BITS };
 /// The predicates.
-pub const PREDICATE_REGISTERS: RegisterMask = RegisterMask {
+pub(crate) const PREDICATE_REGISTERS: RegisterMask = RegisterMask {
     bits: REGISTER_BITS - GENERAL_BITS,
 };
 

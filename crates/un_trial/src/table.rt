@@ -40,13 +40,13 @@ impl<T> Table<T> {
 
     /// The item at a place, lent to be changed; None outside.
     #[inline(always)]
-    pub fn row_mut(&mut self, i: u32) -> Option<&mut T> {
+    pub(crate) fn row_mut(&mut self, i: u32) -> Option<&mut T> {
         self.items.get_mut(i as usize)
     }
 }
 
 /// Makes a list one of these items: where there are as many before, by one copy of them all.
-pub fn overwrite<T: Copy>(list: &mut Vec<T>, items: &[T]) -> Result<(), AllocError> {
+pub(crate) fn overwrite<T: Copy>(list: &mut Vec<T>, items: &[T]) -> Result<(), AllocError> {
     if list.len() == items.len() {
         list.copy_from_slice(items);
         return Ok(());
@@ -68,7 +68,7 @@ impl<T: Copy> Table<T> {
     }
 
     /// Makes the table one of so many places, all as places outside, by a copy of blank ones: a list that grows as it is asked for more.
-    pub fn wipe(&mut self, length: u32, blank: &mut Vec<T>) -> Result<(), AllocError> {
+    pub(crate) fn wipe(&mut self, length: u32, blank: &mut Vec<T>) -> Result<(), AllocError> {
         let count = length as usize;
         if blank.len() < count {
             blank.resize(count, self.outside)?;

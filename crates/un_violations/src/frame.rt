@@ -89,10 +89,7 @@ pub(crate) fn keeps_frame(
     }
     match flag {
         0 => Ok(all_have_frame(false, t.issues.as_slice())),
-        1 => {
-            let kept = is_framed(alloc, n, t.issues.as_slice())?;
-            Ok(kept)
-        }
+        1 => { is_framed(alloc, n, t.issues.as_slice()) }
         _ => Ok(true),
     }
 }

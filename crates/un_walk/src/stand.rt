@@ -38,7 +38,7 @@ pub fn first_stand(alloc: Global, cuts: Store) -> Stand
 }
 
 /// Marks a store, and cuts it by a decision.
-pub fn mark_and_cut(store: &mut Store, decision: Decision) -> Result<(), NoMemory>
+pub(crate) fn mark_and_cut(store: &mut Store, decision: Decision) -> Result<(), NoMemory>
     requires there { decision.var.0 < length store.old.sets }
     requires live { NoneEmpty store.old.sets }
     ensures cut { OnOk result (store.new.sets ≡ decided decision store.old.sets) }

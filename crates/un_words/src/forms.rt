@@ -53,7 +53,7 @@ pub fn have_forms(slots: &[Slot], tokens: &[Token]) -> bool
 }
 
 /// Whether each word is a name.
-pub fn are_names(tokens: &[Token]) -> bool
+pub(crate) fn are_names(tokens: &[Token]) -> bool
     ensures { result ≡ list_all (is_slot Slot.Named) tokens.now }
 {
     tokens.iter().all(|t| is_slot(Slot::Named, t))
@@ -82,7 +82,7 @@ pub fn is_list(tokens: &[Token]) -> bool
 }
 
 /// The words from place `n` on.
-pub fn from_place(tokens: &[Token], n: usize) -> &[Token]
+pub(crate) fn from_place(tokens: &[Token], n: usize) -> &[Token]
     ensures { result.now ≡ drop n tokens.now }
 {
     if n < tokens.len() { &tokens[n..] } else { &[] }
@@ -109,7 +109,7 @@ pub fn is_word_at(tokens: &[Token], i: usize, text: &[u8]) -> bool
 }
 
 /// The number at place `i`.
-pub fn plain_at(tokens: &[Token], i: usize) -> Option<Number>
+pub(crate) fn plain_at(tokens: &[Token], i: usize) -> Option<Number>
     ensures { result ≡ plain_at i tokens.now }
 {
     match tokens.get(i)? {
@@ -136,7 +136,7 @@ pub fn name_at(tokens: &[Token], i: usize) -> Option<(Name, Kind)>
 }
 
 /// The name of a branch at place `i`, and whether it stands there without an exclamation mark.
-pub fn condition_at(tokens: &[Token], i: usize) -> Option<((Name, Kind), bool)>
+pub(crate) fn condition_at(tokens: &[Token], i: usize) -> Option<((Name, Kind), bool)>
     ensures { result ≡ condition_at i tokens.now }
 {
     match tokens.get(i)? {

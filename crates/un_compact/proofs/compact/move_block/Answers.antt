@@ -2,7 +2,7 @@ use Rattle.std.proofs.Common.{◌≡◌, ◌∙◌, ℕ, false, true, List, sym,
 use Rattle.un_model.specs.declared.model.OpVars.{OpVars}
 use Rattle.un_model.specs.Cost.{value_of}
 use Rattle.un_model.specs.Schedules.{value_by}
-use Rattle.un_model.proofs.Lists.{each_of}
+use Rattle.un_lists.proofs.Lists.{each_of}
 use Rattle.un_violations.specs.Loose.{is_cycle, is_time_in}
 use Rattle.un_compact.specs.Squeezes.{is_in, squeezed}
 use Rattle.un_compact.specs.Retimed.{AreMoved}

@@ -1,4 +1,4 @@
-use Rattle.un_tree.proofs.Cuts.{if_none}
+use Rattle.un_base.proofs.Cuts.{if_none}
 use Rattle.un_judge.proofs.Spellings.{no_blank, no_number}
 use Rattle.un_judge.proofs.line.number_first.Goals as goal
 

@@ -1,4 +1,4 @@
-use Rattle.un_tree.proofs.Cuts.{if_none}
+use Rattle.un_base.proofs.Cuts.{if_none}
 use Rattle.un_judge.proofs.Spellings.{no_rule, no_place, no_var, no_first, no_last}
 use Rattle.un_judge.proofs.line.step_of.Goals as goal
 

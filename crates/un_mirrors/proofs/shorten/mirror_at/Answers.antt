@@ -2,7 +2,7 @@ use Rattle.std.proofs.Common.{◌≡◌, subst, All, arith}
 use Rattle.un_domains.specs.declared.side.Side.TheVariants.{AtMost}
 use Rattle.un_model.specs.Boxes.{root_of}
 use Rattle.un_tree.specs.declared.node.Decision.{Decision}
-use Rattle.un_tree.proofs.Cuts.{if_none}
+use Rattle.un_base.proofs.Cuts.{if_none}
 use Rattle.un_walk.proofs.StandLemmas.{marks_long}
 use Rattle.un_mirrors.specs.Shortened.{IsNearestRight}
 use Rattle.un_mirrors.proofs.NearestLemmas.{none_nearest}

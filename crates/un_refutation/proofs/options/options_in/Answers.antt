@@ -1,4 +1,4 @@
-use Rattle.un_tree.proofs.Cuts.{if_none}
+use Rattle.un_base.proofs.Cuts.{if_none}
 use Rattle.un_refutation.proofs.OptionLaws.{no_word, no_regs_word, no_slots}
 use Rattle.un_refutation.proofs.options.options_in.Goals as goal
 

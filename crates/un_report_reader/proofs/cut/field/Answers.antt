@@ -1,5 +1,5 @@
 use Rattle.std.proofs.Common.{◌++◌, ◌∷◌}
-use Rattle.un_tree.proofs.Cuts.{if_none}
+use Rattle.un_base.proofs.Cuts.{if_none}
 use Rattle.un_report_reader.proofs.Cuts.{no_field}
 use Rattle.un_report_reader.proofs.cut.field.Goals as goal
 

@@ -1,5 +1,5 @@
 use Rattle.std.proofs.Common.{rules, ◌≡◌, arith, false}
-use Rattle.un_tree.proofs.Cuts.{if_none}
+use Rattle.un_base.proofs.Cuts.{if_none}
 use Rattle.un_report_reader.proofs.Cuts.{no_number, no_decimal, not_within}
 use Rattle.un_report_reader.proofs.cut.number.Goals as goal
 

@@ -1,4 +1,4 @@
-use Rattle.un_tree.proofs.Cuts.{if_none}
+use Rattle.un_base.proofs.Cuts.{if_none}
 use Rattle.un_report_reader.proofs.PartLaws.{no_word, no_regs_word, no_slots, no_nodes}
 use Rattle.un_report_reader.proofs.head.settings_in.Goals as goal
 

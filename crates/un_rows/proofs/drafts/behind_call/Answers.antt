@@ -1,5 +1,5 @@
 use Rattle.std.proofs.Common.{ℕ, ap, arith}
-use Rattle.un_model.proofs.Lists.{get_below}
+use Rattle.un_lists.proofs.Lists.{get_below}
 use Rattle.un_rows.proofs.Walks.{counted_more}
 use Rattle.un_rows.specs.Drafts.{arc}
 use Rattle.un_rows.specs.declared.draft.Owed.{Owed}

@@ -1,4 +1,4 @@
-use Rattle.un_start.proofs.Cuts.{if_none}
+use Rattle.un_base.proofs.Cuts.{if_none}
 use Rattle.un_start.proofs.LineLaws.{no_feed, no_first}
 use Rattle.un_start.proofs.line.first_line.Goals as goal
 

@@ -1,4 +1,4 @@
-use Rattle.un_start.proofs.Cuts.{if_none}
+use Rattle.un_base.proofs.Cuts.{if_none}
 use Rattle.un_start.proofs.LineLaws.{no_cut, no_word}
 use Rattle.un_start.proofs.line.line_of.Goals as goal
 

@@ -1,4 +1,4 @@
-use Rattle.un_start.proofs.Cuts.{if_none}
+use Rattle.un_base.proofs.Cuts.{if_none}
 use Rattle.un_start.proofs.LineLaws.{none_cut, none_first, none_rest}
 use Rattle.un_start.proofs.line.numbers_of.Goals as goal
 

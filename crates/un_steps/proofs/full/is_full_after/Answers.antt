@@ -1,6 +1,6 @@
 use Rattle.std.proofs.Common.{refl, arith}
 use Rattle.un_steps.specs.Full.{operations_of}
-use Rattle.un_model.proofs.Lists.{length_get}
+use Rattle.un_lists.proofs.Lists.{length_get}
 use Rattle.un_steps.proofs.Narrowing.{to_one, some_place, up_to}
 use Rattle.un_steps.proofs.full.is_full_after.Goals as goal
 

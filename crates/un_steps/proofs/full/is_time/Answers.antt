@@ -1,6 +1,6 @@
 use Rattle.std.proofs.Common.{refl, arith}
 use Rattle.un_steps.specs.Full.{operations_of}
-use Rattle.un_model.proofs.Lists.{length_get}
+use Rattle.un_lists.proofs.Lists.{length_get}
 use Rattle.un_steps.proofs.Boxes.{some_of}
 use Rattle.un_steps.proofs.full.is_time.Goals as goal
 

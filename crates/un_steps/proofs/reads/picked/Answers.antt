@@ -1,6 +1,6 @@
 use Rattle.std.proofs.Common.{sym, ap, ◌∙◌, arith}
 use Rattle.un_base.specs.declared.ids.VarId.{VarId}
-use Rattle.un_model.proofs.Lists.{get_below, index_get}
+use Rattle.un_lists.proofs.Lists.{get_below, index_get}
 use Rattle.un_steps.proofs.Picking.{picked_later, picked_none}
 use Rattle.un_steps.proofs.reads.picked.Goals as goal
 

@@ -1,5 +1,5 @@
 use Rattle.std.proofs.Common.{refl, arith}
-use Rattle.un_model.proofs.Lists.{length_get}
+use Rattle.un_lists.proofs.Lists.{length_get}
 use Rattle.un_steps.proofs.Boxes.{some_of}
 use Rattle.un_steps.proofs.rules.leaves_one_none.Goals as goal
 

@@ -1,4 +1,4 @@
-use Rattle.un_tree.proofs.Cuts.{if_none}
+use Rattle.un_base.proofs.Cuts.{if_none}
 use Rattle.un_symtree.proofs.SymLines.{three_uncut, three_first, three_others}
 use Rattle.un_symtree.proofs.line.mirror_of.Goals as goal
 

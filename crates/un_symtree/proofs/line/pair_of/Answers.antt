@@ -1,4 +1,4 @@
-use Rattle.un_tree.proofs.Cuts.{if_none}
+use Rattle.un_base.proofs.Cuts.{if_none}
 use Rattle.un_symtree.proofs.SymLines.{pair_uncut, pair_first, pair_second}
 use Rattle.un_symtree.proofs.line.pair_of.Goals as goal
 

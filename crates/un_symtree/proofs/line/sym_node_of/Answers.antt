@@ -1,5 +1,5 @@
 use Rattle.std.proofs.Common.{rules, ◌≢◌, codes}
-use Rattle.un_tree.proofs.Cuts.{if_none}
+use Rattle.un_base.proofs.Cuts.{if_none}
 use Rattle.un_symtree.proofs.SymLines.{line_uncut, line_no_word}
 use Rattle.un_symtree.proofs.line.sym_node_of.Goals as goal
 

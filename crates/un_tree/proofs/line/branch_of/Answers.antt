@@ -1,4 +1,4 @@
-use Rattle.un_tree.proofs.Cuts.{if_none}
+use Rattle.un_base.proofs.Cuts.{if_none}
 use Rattle.un_tree.proofs.NodeLines.{none_cut, none_first, none_rest}
 use Rattle.un_tree.proofs.line.branch_of.Goals as goal
 

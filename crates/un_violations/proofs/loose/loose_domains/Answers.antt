@@ -1,7 +1,7 @@
 use Rattle.std.proofs.Common.{ℕ, ◌≡◌, ◌<◌, ◌∙◌, Bool, List, arith, ap, sym, subst, slice_get, Some}
 use Rattle.un_domains.specs.declared.domain.Domain.{Domain}
 use Rattle.un_model.specs.declared.model.BlockVars.{BlockVars}
-use Rattle.un_model.proofs.Lists.{index_get}
+use Rattle.un_lists.proofs.Lists.{index_get}
 use Rattle.un_model.proofs.Steps.{places_more, places_all}
 use Rattle.un_violations.specs.Loose.{is_time, loosened}
 use Rattle.un_violations.specs.Marks.{AreMarked}

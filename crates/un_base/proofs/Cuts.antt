@@ -3,7 +3,7 @@ use Rattle.std.proofs.Common.{◌≡◌, ◌≢◌, ℕ, List, [], ◌∷◌, �
 use Rattle.std.proofs.Common.{refl, sym, ap, subst, ◌∙◌}
 use Rattle.std.specs.List.{AllByRecursion}
 use Rattle.std.proofs.lemmas.List.Elements.{recursion_from_All}
-use Rattle.un_start.specs.Lines.{IsCut}
+use Rattle.un_base.specs.Lines.{IsCut}
 
 -- two texts that are cut at the first of a byte have the same parts
 pub cut_once : (b : ℕ) (first first' rest rest' : List ℕ) → AllByRecursion (λ y. y ≢ b) first → AllByRecursion (λ y. y ≢ b) first'
