@@ -143,7 +143,8 @@ fn crosses_call(facts: &Facts, name: u32) -> bool {
     false
 }
 
-fn calls(facts: &Facts) -> bool {
+/// Whether the function calls.
+pub(crate) fn calls(facts: &Facts) -> bool {
     for block in &facts.blocks {
         if block.has_call() {
             return true;

@@ -125,14 +125,23 @@ fn free_name(facts: &Facts, g: u32, place: u32) -> Option<u32> {
     None
 }
 
-/// A saved value by chance goes to a slot in its region, or back to its register.
+/// Where a saved value goes from a slot: to its own register; the link, which each call overwrites, to that of another one.
+pub(crate) fn saved_home(facts: &Facts, i: u32, noise: &mut Noise) -> u32 {
+    if i < facts.kept() {
+        facts.saved_register(i)
+    } else {
+        facts.saved_register(noise.place(facts.kept()))
+    }
+}
+
+/// A saved value by chance goes to a slot in its region, or back to a register.
 fn saved_change(facts: &Facts, places: &Places, group: u32, noise: &mut Noise) -> Option<Change> {
-    let i = noise.place(facts.kept());
+    let i = noise.place(facts.kept().saturating_add(1));
     let key = facts.names.saturating_add(i);
     let place = if places.at(group, key) < FIRST_SLOT {
         slot_of(facts, places, key)
     } else {
-        facts.saved_register(i)
+        saved_home(facts, i, noise)
     };
     if facts.is_free(group, key) {
         Some(Change { group, key, place })

@@ -125,7 +125,7 @@ impl<'a> Search<'a> {
         if self.noise.one_in(4) {
             any_change(facts, &plan.places, block, plan.frame, &mut self.noise)
         } else {
-            wish_of(block, mine, &mut self.noise)
+            wish_of(facts, block, mine, &mut self.noise)
         }
     }
 

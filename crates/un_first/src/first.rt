@@ -39,6 +39,25 @@ pub fn judged(alloc: Global, m: &Model, values: Vec<u32>) -> Result<Option<Solut
 /// A search under fewer registers has so many trials at most.
 const FEWER_TRIALS: u64 = 1_000;
 
+/// From so many trials on two searches have half of them each: they come to other plans, and the better one is mostly cheaper than what one
+/// search finds.
+const HALVED_TRIALS: u64 = 4_000;
+
+/// The seed of a search's chance.
+const FIRST_SEED: u64 = 0;
+
+/// The seed of a second search's chance.
+const SECOND_SEED: u64 = 1;
+
+/// How many of so many trials one search has.
+fn share(trials: u64) -> u64 {
+    if trials < HALVED_TRIALS {
+        trials
+    } else {
+        trials / 2
+    }
+}
+
 /// The values that a search found.
 #[derive(Drop)]
 struct Found {
@@ -57,12 +76,17 @@ fn values_of(alloc: Global, facts: &Facts, plan: &Plan) -> Result<Found, AllocEr
     })
 }
 
-/// The plan that a search with so many trials finds.
-fn searched(alloc: Global, facts: &Facts, budget: u64) -> Result<Option<Plan>, AllocError> {
+/// The plan that a search with so many trials finds, with its chance from a seed.
+fn searched(
+    alloc: Global,
+    facts: &Facts,
+    budget: u64,
+    seed: u64,
+) -> Result<Option<Plan>, AllocError> {
     let Some(first) = facts.blocks.as_slice().first() else {
         return Ok(None);
     };
-    let mut search = Search::new(alloc, facts, first, budget)?;
+    let mut search = Search::new(alloc, facts, first, budget, seed)?;
     let quarter = budget / 4;
     let Some(start) = best_start(alloc, &mut search, budget.saturating_sub(quarter))? else {
         return Ok(None);
@@ -83,7 +107,7 @@ fn resumed(
     let Some(first) = facts.blocks.as_slice().first() else {
         return Ok(None);
     };
-    let mut search = Search::new(alloc, facts, first, budget)?;
+    let mut search = Search::new(alloc, facts, first, budget, FIRST_SEED)?;
     let start = search.restarted(plan)?;
     search.left = budget / 4;
     let mut plan = search.climb(alloc, start, 0)?;
@@ -114,7 +138,7 @@ fn improve_by_waiting(
     if best.cycles <= least_cost(waiting) {
         return Ok(());
     }
-    let Some(plan) = searched(alloc, waiting, budget)? else {
+    let Some(plan) = searched(alloc, waiting, budget, FIRST_SEED)? else {
         return Ok(());
     };
     best.improve(alloc, waiting, &plan)?;
@@ -122,6 +146,22 @@ fn improve_by_waiting(
         best.improve(alloc, facts, &quick)?;
     }
     Ok(())
+}
+
+/// Makes values those that a search from another seed finds, where they cost less. Nothing is tried where the values cost the least.
+fn improve_by_chance(
+    alloc: Global,
+    facts: &Facts,
+    budget: u64,
+    best: &mut Found,
+) -> Result<(), AllocError> {
+    if best.cycles <= least_cost(facts) {
+        return Ok(());
+    }
+    match searched(alloc, facts, budget, SECOND_SEED)? {
+        None => Ok(()),
+        Some(plan) => best.improve(alloc, facts, &plan),
+    }
 }
 
 /// Makes values the cheapest of those that searches under fewer and fewer registers find. They go other ways, and what they find is as
@@ -138,16 +178,16 @@ fn improve_by_fewer(
         if best.cycles <= least || facts.machine.assignable == EMPTY {
             break;
         }
-        if let Some(plan) = searched(alloc, facts, budget)? {
+        if let Some(plan) = searched(alloc, facts, budget, FIRST_SEED)? {
             best.improve(alloc, facts, &plan)?;
         }
     }
     Ok(())
 }
 
-/// The values that a search with at most `budget` trials of blocks and an eighth more makes, or one of those that follow: where jumps may
-/// issue beside what they test, one as if they waited, and one that goes on from there; where options limit the registers, some under
-/// fewer. None where no start assignment leads to any. Nothing is promised of them: `first` judges them.
+/// The values that a search makes, or one of those that follow: where jumps may issue beside what they test, one as if they waited, and one
+/// that goes on from there; else, where the trials are halved, one from another seed; where options limit the registers, some under fewer.
+/// None where no start assignment leads to any. Nothing is promised of them: `first` judges them.
 ///
 /// # Errors
 /// `NoMemory` where there is no memory for the plans.
@@ -157,15 +197,18 @@ pub fn candidate(
     least_ends: &[u32],
     budget: u32,
 ) -> Result<Option<Vec<u32>>, NoMemory> {
-    let trials = u64::from(budget);
+    let all = u64::from(budget);
+    let trials = share(all);
     let mut facts = facts(alloc, m, least_ends)?;
-    let Some(plan) = searched(alloc, &facts, trials)? else {
+    let Some(plan) = searched(alloc, &facts, trials, FIRST_SEED)? else {
         return Ok(None);
     };
     let mut best = values_of(alloc, &facts, &plan)?;
     if facts.has_fresh_jump() {
         let waiting = waiting_facts(alloc, m, least_ends)?;
         improve_by_waiting(alloc, &facts, &waiting, trials, &mut best)?;
+    } else if trials < all {
+        improve_by_chance(alloc, &facts, trials, &mut best)?;
     }
     if m.options.regs.is_some() {
         improve_by_fewer(alloc, &mut facts, trials.min(FEWER_TRIALS), &mut best)?;
@@ -173,9 +216,10 @@ pub fn candidate(
     Ok(Some(best.values))
 }
 
-/// A solution by at most `budget` trials of blocks and an eighth more. Where jumps may issue beside what they test and it costs more than is
-/// possible if they waited, one and a half times as many follow; where options limit the registers and it costs more than the least, more
-/// of them under fewer registers. It follows from the model, the bounds and the budget alone; None where none was found.
+/// A solution by at most `budget` trials of blocks and an eighth more: of one search, or from 4,000 on of two with half of them each. Where
+/// jumps may issue beside what they test, the second search is as if they waited, with as many trials as the first, and one with a third as
+/// many goes on from what it finds; where options limit the registers and the solution costs more than the least, more follow under fewer
+/// registers. It follows from the model, the bounds and the budget alone; None where none was found.
 /// `least_ends` has a lower bound of each block's end: a block that has reached it gets no more trials. A wrong one makes the answer
 /// worse, and not wrong.
 ///

@@ -40,7 +40,7 @@ struct Seed {
 pub struct Search<'a> {
     /// The function whose plans are tried.
     pub facts: &'a Facts,
-    /// Where its chance comes from, which follows from a fixed seed.
+    /// Where its chance comes from, which follows from the seed.
     pub noise: Noise,
     /// How many trials it may make.
     pub budget: u64,
@@ -96,12 +96,13 @@ fn seeds(alloc: Global, count: usize) -> Result<Vec<Seed>, AllocError> {
 }
 
 impl<'a> Search<'a> {
-    /// A search with so many trials, which begin at one of the function's blocks.
+    /// A search with so many trials, which begin at one of the function's blocks, and with its chance from a seed.
     pub fn new(
         alloc: Global,
         facts: &'a Facts,
         first: &'a Block,
         budget: u64,
+        seed: u64,
     ) -> Result<Search<'a>, AllocError> {
         let task = Task {
             machine: &facts.machine,
@@ -113,7 +114,7 @@ impl<'a> Search<'a> {
         let seeds = seeds(alloc, facts.blocks.len())?;
         Ok(Search {
             facts,
-            noise: Noise::new(0),
+            noise: Noise::new(seed),
             budget,
             left: budget,
             least: least_cost(facts),

@@ -1,9 +1,11 @@
 //! Which block's places are changed, and what its schedule would like.
 
+use crate::assign::calls;
 use crate::chance::Noise;
-use crate::changes::Change;
+use crate::changes::{Change, saved_home};
 use crate::plan::{BlockPlan, Plan};
 use un_blocks::facts::{Block, Facts, at};
+use un_isa::reg::LINK;
 use un_trial::facts::Operation;
 use un_trial::table::NONE;
 
@@ -127,9 +129,24 @@ impl<'a> Reading<'a> {
     }
 }
 
+/// Where a value from a block's start would stand, of which a copy went to this register: there, but for the link of a function with calls,
+/// which each of them overwrites: that stands where another saved value does.
+fn wished(facts: &Facts, register: u32, noise: &mut Noise) -> u32 {
+    if register == LINK && calls(facts) {
+        saved_home(facts, facts.kept(), noise)
+    } else {
+        register
+    }
+}
+
 /// A place that makes a copy of a block's schedule needless: where a copy of a value from the block's start went, or where a value
 /// stood that was copied to its place at the end.
-pub(crate) fn wish_of(block: &Block, mine: &BlockPlan, noise: &mut Noise) -> Option<Change> {
+pub(crate) fn wish_of(
+    facts: &Facts,
+    block: &Block,
+    mine: &BlockPlan,
+    noise: &mut Noise,
+) -> Option<Change> {
     if !mine.is_found {
         return None;
     }
@@ -146,7 +163,7 @@ pub(crate) fn wish_of(block: &Block, mine: &BlockPlan, noise: &mut Noise) -> Opt
         Some(Change {
             group: block.group_in,
             key: x.key,
-            place: reading.register(op.result),
+            place: wished(facts, reading.register(op.result), noise),
         })
     } else {
         Some(Change {

@@ -13,6 +13,7 @@ mod near;
 pub mod order;
 mod root;
 pub mod rounds;
+mod settle;
 pub mod solve;
 pub mod start;
 mod window;

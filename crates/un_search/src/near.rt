@@ -1,5 +1,6 @@
-//! Solutions near one: in a window of a block's cycles another schedule is looked for that is one cycle shorter, and all else of the block
-//! stays where the rounds let it. What is found was judged, so nothing else is promised of it.
+//! Solutions near one: another schedule of a block is looked for that is one cycle shorter, of what the block issues as it is, or in a
+//! window of its cycles, where all else of the block stays where the rounds let it. What is found was judged, so nothing else is promised
+//! of it.
 
 ghost use Rattle.std.specs.Prelude.{◌≡◌, ◌≤◌, ◌⊎◌, [], IfOk, IfSome, OnOk};
 ghost use Rattle.un_domains.specs.Sets.{NoneEmpty};
@@ -14,7 +15,8 @@ use crate::dive::Dive;
 use crate::order::BlockOrder;
 use crate::root::{Incumbent, Posting, Root, lowered};
 use crate::rounds::ModelStores;
-use crate::window::{Hint, Site, Window};
+use crate::settle::{Search, settle};
+use crate::window::{Hint, Part, Site, Window};
 use std::alloc::{AllocError, Global};
 use un_base::ids::VarId;
 use un_base::memory_error::NoMemory;
@@ -22,32 +24,8 @@ use un_domains::side::Side;
 use un_first::first::judged;
 use un_model::model::{Model, Solution};
 
-/// How many cycles the windows have.
-const WIDTHS: [u32; 2] = [4, 8];
-
-/// How often a search of a window may go back.
-const FAILURES: u32 = 30;
-
-/// A decision of a search of a window, which may still be turned to its other side where it is the left one.
-#[derive(Clone, Copy)]
-struct Turn {
-    var: VarId,
-    val: u32,
-    is_left: bool,
-}
-
-/// How a search of a window stands: its variables have one value each, one more was decided, or there is none.
-#[derive(Clone, Copy)]
-enum Progress {
-    Done,
-    Going,
-    Stuck,
-}
-
-fn push(path: &mut Vec<Turn>, turn: Turn) -> Result<(), AllocError> {
-    path.push(turn)?;
-    Ok(())
-}
+/// The ways in which a schedule is looked for: of what a block issues as it is, and in windows of so many cycles.
+const WAYS: [Option<u32>; 3] = [None, Some(4), Some(8)];
 
 /// Gives a variable a value, where the rounds let it.
 fn follow(dive: &mut Dive, hint: Hint) -> Result<(), NoMemory>
@@ -67,115 +45,6 @@ fn follow(dive: &mut Dive, hint: Hint) -> Result<(), NoMemory>
     Ok(())
 }
 
-/// The variable of these with the fewest values, but more than one.
-fn smallest_open(dive: &Dive, vars: &[VarId]) -> Option<VarId> {
-    let mut smallest = None;
-    let mut least = u32::MAX;
-    for v in vars {
-        if dive.is_open(*v) && dive.size(*v) < least {
-            least = dive.size(*v);
-            smallest = Some(*v);
-        }
-    }
-    smallest
-}
-
-/// The first of these with more than one value.
-fn first_open(dive: &Dive, vars: &[VarId]) -> Option<VarId> {
-    for v in vars {
-        if dive.is_open(*v) {
-            return Some(*v);
-        }
-    }
-    None
-}
-
-/// The variable that is decided next.
-fn next_open(dive: &Dive, block: &BlockOrder) -> Option<VarId> {
-    match smallest_open(dive, block.cycles.as_slice()) {
-        Some(v) => Some(v),
-        None => first_open(dive, block.others.as_slice()),
-    }
-}
-
-/// Turns the last decision that can be turned.
-fn retreat(dive: &mut Dive, path: &mut Vec<Turn>) -> Result<Progress, NoMemory>
-    ensures { OnOk result (dive.new ≡ dive.old) }
-{
-    for _ in 0..path.len() {
-        let Some(turn) = path.pop() else {
-            break;
-        };
-        dive.back();
-        if turn.is_left && dive.decide(turn.var, turn.val, Side::Above)? {
-            let other = Turn {
-                is_left: false,
-                var: turn.var,
-                val: turn.val,
-            };
-            push(path, other)?;
-            return Ok(Progress::Going);
-        }
-    }
-    Ok(Progress::Stuck)
-}
-
-/// Decides one variable more, at its least value or above it.
-fn advance(dive: &mut Dive, block: &BlockOrder, path: &mut Vec<Turn>) -> Result<Progress, NoMemory>
-    ensures { OnOk result (dive.new ≡ dive.old) }
-{
-    let Some(var) = next_open(dive, block) else {
-        return Ok(Progress::Done);
-    };
-    let val = dive.least(var);
-    if dive.decide(var, val, Side::AtMost)? {
-        push(
-            path,
-            Turn {
-                var,
-                val,
-                is_left: true,
-            },
-        )?;
-        return Ok(Progress::Going);
-    }
-    if dive.decide(var, val, Side::Above)? {
-        push(
-            path,
-            Turn {
-                var,
-                val,
-                is_left: false,
-            },
-        )?;
-        return Ok(Progress::Going);
-    }
-    Ok(Progress::Stuck)
-}
-
-/// Searches the variables of a block depth first. Whether each of them has one value then.
-fn settle(alloc: Global, dive: &mut Dive, block: &BlockOrder) -> Result<bool, NoMemory>
-    ensures { OnOk result (dive.new ≡ dive.old) }
-{
-    let mut path = Vec::new(alloc);
-    let mut failures = 0u32;
-    for _ in 0..dive.left() {
-        let mut progress = advance(dive, block, &mut path)?;
-        if let Progress::Stuck = progress {
-            failures = failures.saturating_add(1);
-            if failures <= FAILURES {
-                progress = retreat(dive, &mut path)?;
-            }
-        }
-        match progress {
-            Progress::Done => return Ok(true),
-            Progress::Stuck => return Ok(false),
-            Progress::Going => {}
-        }
-    }
-    Ok(false)
-}
-
 /// The values of a solution, where the dive has left one alone that one.
 fn values_with(alloc: Global, solution: &Solution, dive: &Dive) -> Result<Vec<u32>, AllocError> {
     let mut values = Vec::new(alloc);
@@ -190,25 +59,24 @@ fn values_with(alloc: Global, solution: &Solution, dive: &Dive) -> Result<Vec<u3
     Ok(values)
 }
 
-/// Looks for a schedule of a block that is one cycle shorter in a window. The dive stays where it comes to.
-fn in_window(
+/// Looks for a schedule of a block that is one cycle shorter. The dive stays where it comes to.
+fn shortened(
     alloc: Global,
     dive: &mut Dive,
-    site: Site<'_>,
-    block: &BlockOrder,
-    window: Window,
+    search: Search<'_>,
 ) -> Result<Option<Vec<u32>>, NoMemory>
     ensures { OnOk result (dive.new ≡ dive.old) }
 {
-    let shorter = site.value(block.end).saturating_sub(1);
-    if !dive.decide(block.end, shorter, Side::AtMost)? {
+    let site = search.site;
+    let shorter = site.value(search.block.end).saturating_sub(1);
+    if !dive.decide(search.block.end, shorter, Side::AtMost)? {
         return Ok(None);
     }
-    let hints = site.hints(alloc, window)?;
+    let hints = site.hints(alloc, search.part)?;
     for hint in &hints {
         follow(dive, *hint)?;
     }
-    if settle(alloc, dive, block)? {
+    if settle(alloc, dive, search)? {
         let values = values_with(alloc, site.solution, dive)?;
         Ok(Some(values))
     } else {
@@ -216,8 +84,27 @@ fn in_window(
     }
 }
 
+/// Looks for a solution with a schedule of a block that is one cycle shorter.
+fn in_part(
+    alloc: Global,
+    m: &Model,
+    dive: &mut Dive,
+    search: Search<'_>,
+) -> Result<Option<Solution>, NoMemory>
+    requires model { IsModel m.now }
+    ensures found { IfOk result (λ found. IfSome found (λ s. IsSolution m.now s)) }
+    ensures same { OnOk result (dive.new ≡ dive.old) }
+{
+    let found = shortened(alloc, dive, search)?;
+    dive.rise();
+    match found {
+        None => Ok(None),
+        Some(values) => judged(alloc, m, values),
+    }
+}
+
 /// Looks for a shorter schedule of a block in the windows of one width.
-fn in_block(
+fn in_windows(
     alloc: Global,
     m: &Model,
     dive: &mut Dive,
@@ -232,29 +119,48 @@ fn in_block(
     let step = (width / 2).max(1);
     for k in 0..site.value(block.end).div_ceil(step) {
         let low = k.saturating_mul(step).saturating_add(1);
-        let window = Window {
+        let part = Part::In(Window {
             low,
             high: low.saturating_add(width).saturating_sub(1),
-        };
-        let found = in_window(alloc, dive, site, block, window)?;
-        dive.rise();
-        if let Some(values) = found {
-            if let Some(solution) = judged(alloc, m, values)? {
-                return Ok(Some(solution));
-            }
+        });
+        let found = in_part(alloc, m, dive, Search { site, block, part })?;
+        if found.is_some() {
+            return Ok(found);
         }
     }
     Ok(None)
 }
 
-/// Looks for a shorter schedule of one of the blocks in the windows of one width.
+/// Looks for a shorter schedule of a block in the windows of one width, or, where there is no width, of what it issues as it is.
+fn in_block(
+    alloc: Global,
+    m: &Model,
+    dive: &mut Dive,
+    site: Site<'_>,
+    block: &BlockOrder,
+    width: Option<u32>,
+) -> Result<Option<Solution>, NoMemory>
+    requires model { IsModel m.now }
+    ensures found { IfOk result (λ found. IfSome found (λ s. IsSolution m.now s)) }
+    ensures same { OnOk result (dive.new ≡ dive.old) }
+{
+    match width {
+        Some(width) => in_windows(alloc, m, dive, site, block, width),
+        None => {
+            let part = Part::Cycles;
+            in_part(alloc, m, dive, Search { site, block, part })
+        }
+    }
+}
+
+/// Looks for a shorter schedule of one of the blocks, in one of these ways.
 fn in_blocks(
     alloc: Global,
     m: &Model,
     solution: &Solution,
     dive: &mut Dive,
     order: &[BlockOrder],
-    width: u32,
+    width: Option<u32>,
 ) -> Result<Option<Solution>, NoMemory>
     requires model { IsModel m.now }
     ensures found { IfOk result (λ found. IfSome found (λ s. IsSolution m.now s)) }
@@ -277,8 +183,8 @@ fn in_blocks(
     Ok(None)
 }
 
-/// Looks for a shorter schedule of one of the blocks, in small windows first.
-fn in_windows(
+/// Looks for a shorter schedule of one of the blocks: of what they issue as it is, and then in small windows first.
+fn in_ways(
     alloc: Global,
     m: &Model,
     solution: &Solution,
@@ -289,7 +195,7 @@ fn in_windows(
     ensures found { IfOk result (λ found. IfSome found (λ s. IsSolution m.now s)) }
     ensures same { OnOk result (dive.new ≡ dive.old) }
 {
-    for width in WIDTHS {
+    for width in WAYS {
         let found = in_blocks(alloc, m, solution, dive, order, width)?;
         if found.is_some() {
             return Ok(found);
@@ -327,7 +233,7 @@ fn near(
         order,
     } = stores;
     let mut dive = Dive::new(engine, left);
-    let solution = in_windows(alloc, m, solution, &mut dive, order.as_slice())?;
+    let solution = in_ways(alloc, m, solution, &mut dive, order.as_slice())?;
     let left = dive.left();
     let engine = dive.into_engine();
     Ok(Found {

@@ -46,10 +46,7 @@ const MOST_OPERATIONS_TRIED: usize = 20_000_000;
 const NEAR_NODES: u32 = 100;
 
 /// For so many nodes there is one decision near the first solution, which costs more time than a node.
-const NODES_OF_DECISION: u32 = 4;
-
-/// A block with more operations, copies with them, for each of these decisions is not looked at: no window of it comes to its end.
-const OPERATIONS_OF_DECISION: usize = 2;
+const NODES_OF_DECISION: u32 = 2;
 
 /// The number of operations of the largest block, copies with them.
 fn largest_block(blocks: &[BlockVars]) -> usize {
@@ -243,13 +240,12 @@ fn candidate(
     })
 }
 
-/// Whether each block has few enough operations for a search near a solution with so many decisions.
+/// Whether each block has no more operations, copies with them, than there are decisions: no search of a larger one comes to its end.
 fn is_in_reach(m: &Model, decisions: u32) -> bool {
-    let most = (decisions as usize).saturating_mul(OPERATIONS_OF_DECISION);
     m.blocks
         .as_slice()
         .iter()
-        .all(|block| block.ops.len() <= most)
+        .all(|block| block.ops.len() <= decisions as usize)
 }
 
 /// The best solution that is found near one, where there are nodes for it and it costs more than the least.

@@ -1,7 +1,9 @@
-//! A window of a block's cycles, and what stays as it is in a solution when the window is made one cycle shorter.
+//! A window of a block's cycles, and what stays as it is in a solution when the window or the whole block is made one cycle shorter.
 
 use std::alloc::{AllocError, Global};
 use un_base::ids::{OpId, TempId, VarId};
+use un_ir::extended::ExtBlock;
+use un_model::ends::live_in_temps;
 use un_model::model::{BlockVars, Model, OpVars, Solution, TempVars};
 
 /// Cycles of a block, from `low` to `high`.
@@ -24,6 +26,15 @@ impl Window {
             cycle
         }
     }
+}
+
+/// What of a block is looked for anew.
+#[derive(Clone, Copy)]
+pub(crate) enum Part {
+    /// The cycles and registers of what it issues.
+    Cycles,
+    /// What it issues in a window of its cycles.
+    In(Window),
 }
 
 /// A value that a variable is to keep, where the rounds let it.
@@ -168,13 +179,47 @@ impl Site<'_> {
     }
 
     /// What is to stay as it is outside a window.
-    pub(crate) fn hints(self, alloc: Global, window: Window) -> Result<Vec<Hint>, AllocError> {
+    fn hint_outside(
+        self,
+        alloc: Global,
+        window: Window,
+        hints: &mut Vec<Hint>,
+    ) -> Result<(), AllocError> {
         let free = self.free(alloc, window)?;
+        self.hint_registers(free.as_slice(), hints)?;
+        self.hint_operations(free.as_slice(), hints)?;
+        self.hint_cycles(free.as_slice(), window, hints)
+    }
+
+    /// The registers at the start of a block of the function.
+    fn hint_start(self, block: &ExtBlock, hints: &mut Vec<Hint>) -> Result<(), AllocError> {
+        for t in live_in_temps(&block.ops) {
+            if let Some(temp) = self.m.temps.as_slice().get(t.0 as usize) {
+                hints.push(self.kept(temp.reg))?;
+            }
+        }
+        Ok(())
+    }
+
+    /// What is to stay as it is where the block issues what it does: that, and where the blocks take their values.
+    fn hint_issued(self, hints: &mut Vec<Hint>) -> Result<(), AllocError> {
+        for block in self.m.ext.blocks.as_slice() {
+            self.hint_start(block, hints)?;
+        }
+        for op in self.block.ops.as_slice() {
+            self.hint_operation(op, hints)?;
+        }
+        Ok(())
+    }
+
+    /// What is to stay as it is where a part of the block is looked for anew.
+    pub(crate) fn hints(self, alloc: Global, part: Part) -> Result<Vec<Hint>, AllocError> {
         let mut hints = Vec::new(alloc);
         hints.push(self.kept(self.m.flag))?;
-        self.hint_registers(free.as_slice(), &mut hints)?;
-        self.hint_operations(free.as_slice(), &mut hints)?;
-        self.hint_cycles(free.as_slice(), window, &mut hints)?;
+        match part {
+            Part::Cycles => self.hint_issued(&mut hints)?,
+            Part::In(window) => self.hint_outside(alloc, window, &mut hints)?,
+        }
         Ok(hints)
     }
 }

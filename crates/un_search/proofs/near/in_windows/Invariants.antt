@@ -2,5 +2,5 @@
 use Rattle.std.proofs.Common.{◌≡◌}
 use Rattle.un_search.proofs.near.in_windows.Given as goal
 
-abbrev pub invariant-loop-width : goal.invariant-loop-width
-invariant-loop-width l = l.dive ≡ l.fn.dive
+abbrev pub invariant-loop-k : goal.invariant-loop-k
+invariant-loop-k l = l.dive ≡ l.fn.dive
