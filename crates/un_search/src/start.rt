@@ -46,7 +46,7 @@ const MOST_OPERATIONS_TRIED: usize = 20_000_000;
 const NEAR_NODES: u32 = 100;
 
 /// For so many nodes there is one decision near the first solution, which costs more time than a node.
-const NODES_OF_DECISION: u32 = 2;
+const NODES_OF_DECISION: u32 = 4;
 
 /// The number of operations of the largest block, copies with them.
 fn largest_block(blocks: &[BlockVars]) -> usize {
