@@ -1,5 +1,5 @@
 -- Which names are live at the bounds of blocks.
-use Rattle.std.proofs.Common.{◌≡◌, ◌≢◌, ℕ, zero, suc, ◌+◌, ◌<◌, ◌≤◌, ◌||◌, Bool, true, false, nat_eq, List, [], ◌∷◌, Option, Some, None}
+use Rattle.std.proofs.Common.{◌≡◌, ℕ, zero, suc, ◌<◌, Bool, true, false, nat_eq, List, [], ◌∷◌, Option, Some, None}
 use Rattle.std.proofs.Common.{map, filter, length, slice_get, Contains, if◌then◌else◌, refl, sym, ap, subst, ◌∙◌, arith}
 use Rattle.std.specs.Prelude.{◌==◌}
 use Rattle.std.specs.List.{range_with_len, list_any, position_or_len}
@@ -14,62 +14,7 @@ use Rattle.un_ir.specs.declared.function.Function.{Function}
 use Rattle.un_ir.specs.LinearOf.{AreLive, live_at, live_after, is_among, name_of}
 use Rattle.un_ir.specs.Live.{IsLive, used, kept, read_by, read_by_term, next_by, assigned_by, targets_of}
 use Rattle.un_ir.proofs.NameBounds.{live_name_small}
-
-pub among_contains : (names : List NameId) (n : ℕ) → is_among names n ≡ true → Contains names (name_of n)
-among_contains [] n h = absurd (cc h)
-among_contains (name ∷ names) n h = by (among_contains names n) (nat_eq name.0 n) refl h
-  where
-    by : (is_among names n ≡ true → Contains names (name_of n)) → (w : Bool) → nat_eq name.0 n ≡ w → (w || is_among names n) ≡ true
-        → Contains (name ∷ names) (name_of n)
-    by ih true e h = (0, omega arith, ap name_of (eqb-true name.0 n e))
-    by ih false e h = (λ (r : Contains names (name_of n)). (let q : Contains (name ∷ names)
-        (name_of n) = (suc r.0, (let below = r.1 in omega arith), r.2) in q)) (ih h)
-
-pub contains_among : (names : List NameId) (name : NameId) → Contains names name → is_among names name.0 ≡ true
-contains_among [] name (k, below, is) = absurd (omega arith)
-contains_among (m ∷ names) name (zero, below, is) = let e : nat_eq m.0 name.0 ≡ true = rw is (grind arith) in rw e refl
-contains_among (m ∷ names) name (suc k, below, is) = by (nat_eq m.0 name.0) (contains_among names name (k, omega arith, is))
-  where
-    by : (w : Bool) → is_among names name.0 ≡ true → (w || is_among names name.0) ≡ true
-    by true h = refl
-    by false h = h
-
-pub any_found : (p : ℕ → Bool) (xs : List ℕ) → list_any p xs ≡ true → (c : ℕ) × Contains xs c × (p c ≡ true)
-any_found p [] h = absurd (cc h)
-any_found p (x ∷ xs) h = by (any_found p xs) (p x) refl h
-  where
-    by : (list_any p xs ≡ true → (c : ℕ) × Contains xs c × (p c ≡ true)) → (w : Bool) → p x ≡ w → (w || list_any p xs) ≡ true
-        → (c : ℕ) × Contains (x ∷ xs) c × (p c ≡ true)
-    by ih true e h = (x, (0, omega arith, refl), e)
-    by ih false e h = (λ (r : (c : ℕ) × Contains xs c × (p c ≡ true)). (let q : (c : ℕ) × Contains (x ∷ xs) c ×
-        (p c ≡ true) = (r.0, (suc r.1.0, (let below = r.1.1 in omega arith), r.1.2), r.2) in q)) (ih h)
-
-pub any_true : (p : ℕ → Bool) (xs : List ℕ) (c : ℕ) → Contains xs c → p c ≡ true → list_any p xs ≡ true
-any_true p [] c (k, below, is) h = absurd (omega arith)
-any_true p (x ∷ xs) c (zero, below, is) h = let e : p x ≡ true = rw is h in rw e refl
-any_true p (x ∷ xs) c (suc k, below, is) h = by (p x) (any_true p xs c (k, omega arith, is) h)
-  where
-    by : (w : Bool) → list_any p xs ≡ true → (w || list_any p xs) ≡ true
-    by true h = refl
-    by false h = h
-
-pub filter_has : (p : ℕ → Bool) (k n x : ℕ) → k ≤ x → x < k + n → p x ≡ true
-    → Contains (map name_of (filter p (range_with_len k n))) (name_of x)
-filter_has p k zero x low high h = absurd (omega arith)
-filter_has p k (suc n) x low high h = by (λ up less. filter_has p (k + 1) n x up less h) (nat_eq k x) refl
-  where
-    later : Contains (map name_of (filter p (range_with_len (k + 1) n))) (name_of x) → (w : Bool)
-        → Contains (map name_of (if w then k ∷ filter p (range_with_len (k + 1) n) else filter p (range_with_len (k + 1) n))) (name_of x)
-    later r true = (suc r.0, (let below = r.1 in omega arith), r.2)
-    later r false = r
-
-    by : (k + 1 ≤ x → x < (k + 1) + n → Contains (map name_of (filter p (range_with_len (k + 1) n))) (name_of x)) → (w : Bool)
-        → nat_eq k x ≡ w
-        → Contains (map name_of (filter p (range_with_len k (suc n)))) (name_of x)
-    by ih true e = let same : k ≡ x = eqb-true k x e in let q : p k ≡ true = rw same h in rw q (0, omega arith, ap name_of same)
-    by ih false e =
-        let other : k ≢ x = λ same. (let yes : nat_eq k x ≡ true = rw same (grind arith) in cc (sym e ∙ yes)) in
-        later (ih (omega arith) (omega arith)) (p k)
+use Rattle.un_lssa.proofs.EnterSim.{among_contains, contains_among, any_found, any_true, filter_has}
 
 -- ---- lists
 

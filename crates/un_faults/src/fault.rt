@@ -1,7 +1,7 @@
-//! What can be wrong with a text.
+//! What can be wrong with a text, by number and by name.
 
 ghost use Rattle.std.specs.Prelude.{◌≡◌};
-ghost use Rattle.un_faults.specs.Codes.{code_of};
+ghost use Rattle.un_faults.specs.Codes.{code_of, fault_name};
 
 /// A fault of a line or of a whole text.
 #[derive(Clone, Copy)]
@@ -57,5 +57,28 @@ impl Fault {
             Fault::TooMany => 13,
             Fault::BadFreq => 14,
         }
+    }
+}
+
+/// The name of the fault of a number, and no byte for another number.
+pub fn name_of(code: u8) -> &'static [u8]
+    ensures { result.now ≡ fault_name code }
+{
+    match code {
+        1 => b"BadByte",
+        2 => b"BadLine",
+        3 => b"WideLiteral",
+        4 => b"DupLabel",
+        5 => b"UnknownLabel",
+        6 => b"NoBlock",
+        7 => b"AfterEnd",
+        8 => b"FallsOff",
+        9 => b"JumpToEntry",
+        10 => b"KindClash",
+        11 => b"MixedResult",
+        12 => b"LiveAtEntry",
+        13 => b"TooMany",
+        14 => b"BadFreq",
+        _ => b"",
     }
 }

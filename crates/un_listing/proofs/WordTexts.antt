@@ -1,5 +1,5 @@
 -- The words that registers, names and literals are.
-use Rattle.std.proofs.Common.{rules, ◌≡◌, ℕ, ℤ, pos, negsuc, suc, ◌+◌, ◌-◌, ◌^◌, ◌<◌, ◌≤◌, min, Bool, true, false, not, ◌&&◌, ◌||◌, ◌==◌}
+use Rattle.std.proofs.Common.{◌≡◌, ℕ, ℤ, pos, negsuc, suc, ◌+◌, ◌-◌, ◌^◌, ◌<◌, ◌≤◌, Bool, true, false, not, ◌&&◌, ◌||◌, ◌==◌}
 use Rattle.std.proofs.Common.{nat_eq, nat_lt, nat_le, List, [], ◌∷◌, ◌++◌, if◌then◌else◌, map, filter, length, slice_index, codes}
 use Rattle.std.proofs.Common.{Some, None, refl, sym, ap, ◌∙◌, subst, append-nil, arith, lt-ltb, ne_eqb, true≢false, zero-add, decimal}
 use Rattle.std.proofs.Common.{unsigned_abs, length-append}
@@ -10,13 +10,12 @@ use Rattle.std.specs.List.{list_all, slice_split}
 use Rattle.std.specs.Str.{all_ascii_digits}
 use Rattle.std.proofs.lemmas.Bool.{and_parts}
 use Rattle.std.proofs.lemmas.Bool.Decides.{nat_tests}
-use Rattle.std.proofs.lemmas.Fmt.{length-decimal-le, decimal_nonempty, digits_decimal, digits_value-decimal}
-use Rattle.std.proofs.lemmas.Str.Parse.{IsNumeralModel, numerals_by_fold}
+use Rattle.std.proofs.lemmas.Fmt.{length-decimal-le}
 use Rattle.un_base.specs.Names.{is_first, is_rest, is_name}
-use Rattle.un_base.specs.Decimals.{value_after, value_of}
 use Rattle.un_isa.specs.declared.reg.Reg.{Reg}
 use Rattle.un_isa.specs.declared.reg.TheConstants.{REGISTERS}
 use Rattle.un_words.specs.Tokens.{digits_of, number_of}
+use Rattle.un_words.proofs.DigitTexts.{Writes, decimal_writes, digits_read, all_digits}
 use Rattle.un_listing.specs.declared.word.Word.{Word}
 use Rattle.un_listing.specs.declared.word.Word.TheVariants.{Named, Literal, Negated, NegatedFresh}
 use Rattle.un_listing.specs.Listing.{reg_text}
@@ -96,10 +95,6 @@ digit_rest b h = by (is_first b)
     by true = refl
     by false = rw h refl
 
-all_digits : (text : List ℕ) → all_ascii_digits text ≡ true → list_all is_ascii_digit text ≡ true
-all_digits [] h = refl
-all_digits (b ∷ bs) h = let k = and_parts (is_ascii_digit b) (all_ascii_digits bs) h in rw (k.0, all_digits bs k.1) refl
-
 -- ---- names
 
 pub record NameParts (name : List ℕ) : Type 0 where
@@ -136,35 +131,6 @@ name_says (b ∷ bs) h =
     }
 
 -- ---- digits
-
-own : IsNumeralModel (λ ds. all_ascii_digits ds ≡ true) (value_after 0)
-own = numerals_by_fold _ (search rules) value_after (search rules)
-
--- a text of digits that write n
-record Writes (text : List ℕ) (n : ℕ) : Type 0 where
-  some : 0 < length text
-  digits : all_ascii_digits text ≡ true
-  value : value_of text ≡ n
-  small : n < 2 ^ 32
-  few : length text ≤ 10
-
-decimal_writes : (n : ℕ) → n < 2 ^ 32 → Writes (decimal n) n
-decimal_writes n h =
-    let wide : n < 2 ^ 64 = omega arith in
-    record {
-      some = decimal_nonempty n wide;
-      digits = digits_decimal own n wide;
-      value = digits_value-decimal own n wide;
-      small = h;
-      few = length-decimal-le 10 n (omega arith) (omega arith) wide;
-    }
-
-digits_read : (negative : Bool) (text : List ℕ) (n : ℕ) → Writes text n
-    → digits_of negative text ≡ Some (record { negative = negative; size = n })
-digits_read negative text n w =
-    let some : nat_lt 0 (length text) ≡ true = lt-ltb _ _ w.some in
-    let kept : min n (2 ^ 32 - 1) ≡ n = omega (arith, w.small) in
-    rw (some, w.digits, w.value, kept) refl
 
 number_read : (text : List ℕ) (n : ℕ) → Writes text n → number_of text ≡ Some (record { negative = false; size = n })
 number_read [] n w = absurd (omega (arith, w.some))

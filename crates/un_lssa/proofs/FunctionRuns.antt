@@ -118,11 +118,12 @@ begins seen (p ∷ params) rest apart new =
         by true e = absurd (other (ap (λ (n : ℕ). (let r : NameId = record { 0 = n } in r)) (sym (eqb-true q.0 p.0 e))))
         by false e = refl
 
-record Numbered (params : List NameId) (count : ℕ) : Type 0 where
-  few : length params ≤ count
-  below : (name : NameId) → Contains params name → name.0 < length params
+-- parameters are the first of so many names
+pub record Numbered (params : List NameId) (count : ℕ) : Type 0 where
+  pub few : length params ≤ count
+  pub below : (name : NameId) → Contains params name → name.0 < length params
 
-numbered : (params rest : List NameId) (count : ℕ) → AllPairs (λ (a b : NameId). a ≢ b) params
+pub numbered : (params rest : List NameId) (count : ℕ) → AllPairs (λ (a b : NameId). a ≢ b) params
     → first_appearances (params ++ rest) ≡ range_with_len 0 count → Numbered params count
 numbered params rest count apart is = record { few = few; below = below }
   where

@@ -1,55 +1,23 @@
 -- The words that numbers are: bare, and behind a number sign.
-use Rattle.std.proofs.Common.{rules, ◌≡◌, ℕ, ℤ, pos, negsuc, suc, ◌-◌, ◌^◌, ◌<◌, ◌≤◌, min, Bool, true, false, ◌&&◌, nat_lt, nat_le, List}
-use Rattle.std.proofs.Common.{[], ◌∷◌, length, Some, refl, arith, lt-ltb, add-one, decimal, unsigned_abs}
+use Rattle.std.proofs.Common.{◌≡◌, ℕ, ℤ, pos, negsuc, suc, ◌-◌, ◌^◌, ◌<◌, Bool, true, false, ◌&&◌, nat_lt, nat_le, List}
+use Rattle.std.proofs.Common.{[], ◌∷◌, length, Some, refl, arith, add-one, decimal, unsigned_abs}
 use Rattle.std.specs.Fmt.{signed_decimal}
 use Rattle.std.specs.Char.{is_ascii_digit}
 use Rattle.std.specs.List.{list_all}
 use Rattle.std.specs.Str.{all_ascii_digits}
-use Rattle.std.proofs.lemmas.Fmt.{length-decimal-le, decimal_nonempty, digits_decimal, digits_value-decimal}
 use Rattle.std.proofs.lemmas.Bool.{and_parts}
 use Rattle.std.proofs.lemmas.Bool.Decides.{nat_tests}
-use Rattle.std.proofs.lemmas.Str.Parse.{IsNumeralModel, numerals_by_fold}
 use Rattle.un_base.specs.Names.{is_first, is_rest, is_name}
-use Rattle.un_base.specs.Decimals.{value_after, value_of}
 use Rattle.un_words.specs.declared.token.Token.TheVariants.{Literal, Plain}
 use Rattle.un_words.specs.Words.{is_inner}
-use Rattle.un_words.specs.Tokens.{digits_of, number_of}
+use Rattle.un_words.specs.Tokens.{number_of}
+use Rattle.un_words.proofs.DigitTexts.{Writes, decimal_writes, digits_read, all_digits}
 use Rattle.un_reread.specs.Printed.{as_number}
 use Rattle.un_reread.proofs.Bytes.{is_clean_byte, IsClean}
 use Rattle.un_reread.proofs.WordsOf.{Says}
 use Rattle.un_reread.proofs.NameWords.{other_byte, all_weaker}
 
 -- ---- digits
-
-own : IsNumeralModel (λ ds. all_ascii_digits ds ≡ true) (value_after 0)
-own = numerals_by_fold _ (search rules) value_after (search rules)
-
--- a text of digits that write n
-record Writes (text : List ℕ) (n : ℕ) : Type 0 where
-  some : 0 < length text
-  digits : all_ascii_digits text ≡ true
-  value : value_of text ≡ n
-  small : n < 2 ^ 32
-  few : length text ≤ 10
-
-decimal_writes : (n : ℕ) → n < 2 ^ 32 → Writes (decimal n) n
-decimal_writes n h =
-    let wide : n < 2 ^ 64 = omega arith in
-    record {
-      some =
-          decimal_nonempty n wide;
-      digits =
-          digits_decimal own n wide;
-      value =
-          digits_value-decimal own n wide;
-      small = h;
-      few = length-decimal-le 10 n (omega arith) (omega arith) wide;
-    }
-
-all_digits : (text : List ℕ) → all_ascii_digits text ≡ true → list_all is_ascii_digit text ≡ true
-all_digits [] h = refl
-all_digits (b ∷ bs) h =
-    let p = and_parts (is_ascii_digit b) (all_ascii_digits bs) h in rw (p.0, all_digits bs p.1) refl
 
 digit_inner : (b : ℕ) → is_ascii_digit b ≡ true → is_inner b ≡ true
 digit_inner b h =
@@ -82,13 +50,6 @@ first_digit : (b : ℕ) (bs : List ℕ) → all_ascii_digits (b ∷ bs) ≡ true
 first_digit b bs h = (and_parts (is_ascii_digit b) (all_ascii_digits bs) h).0
 
 -- ---- numbers
-
-digits_read : (negative : Bool) (text : List ℕ) (n : ℕ) → Writes text n
-    → digits_of negative text ≡ Some (record { negative = negative; size = n })
-digits_read negative text n w =
-    let some : nat_lt 0 (length text) ≡ true = lt-ltb _ _ w.some in
-    let kept : min n (2 ^ 32 - 1) ≡ n = omega (arith, w.small) in
-    rw (some, w.digits, w.value, kept) refl
 
 number_read : (text : List ℕ) (n : ℕ) → Writes text n → number_of text ≡ Some (record { negative = false; size = n })
 number_read [] n w = absurd (omega (arith, w.some))

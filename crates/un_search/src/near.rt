@@ -16,7 +16,7 @@ use crate::order::BlockOrder;
 use crate::root::{Incumbent, Posting, Root, lowered};
 use crate::rounds::ModelStores;
 use crate::settle::{Search, settle};
-use crate::window::{Hint, Part, Site, Window};
+use crate::window::{BlockOf, CycleRange, Hint, Part};
 use std::alloc::{AllocError, Global};
 use un_base::ids::VarId;
 use un_base::memory_error::NoMemory;
@@ -108,7 +108,7 @@ fn in_windows(
     alloc: Global,
     m: &Model,
     dive: &mut Dive,
-    site: Site<'_>,
+    site: BlockOf<'_>,
     block: &BlockOrder,
     width: u32,
 ) -> Result<Option<Solution>, NoMemory>
@@ -119,7 +119,7 @@ fn in_windows(
     let step = (width / 2).max(1);
     for k in 0..site.value(block.end).div_ceil(step) {
         let low = k.saturating_mul(step).saturating_add(1);
-        let part = Part::In(Window {
+        let part = Part::In(CycleRange {
             low,
             high: low.saturating_add(width).saturating_sub(1),
         });
@@ -136,7 +136,7 @@ fn in_block(
     alloc: Global,
     m: &Model,
     dive: &mut Dive,
-    site: Site<'_>,
+    site: BlockOf<'_>,
     block: &BlockOrder,
     width: Option<u32>,
 ) -> Result<Option<Solution>, NoMemory>
@@ -168,7 +168,7 @@ fn in_blocks(
 {
     for block in order {
         if let Some(vars) = m.blocks.as_slice().get(block.place) {
-            let site = Site {
+            let site = BlockOf {
                 m,
                 solution,
                 block: vars,

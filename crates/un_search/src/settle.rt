@@ -4,7 +4,7 @@ ghost use Rattle.std.specs.Prelude.{◌≡◌, OnOk};
 
 use crate::dive::Dive;
 use crate::order::BlockOrder;
-use crate::window::{Part, Site};
+use crate::window::{BlockOf, Part};
 use std::alloc::{AllocError, Global};
 use un_base::ids::VarId;
 use un_base::memory_error::NoMemory;
@@ -25,7 +25,7 @@ struct Turn {
 /// What is looked for: a part of a block of a solution anew, with the order of the block's variables.
 #[derive(Clone, Copy)]
 pub(crate) struct Search<'a> {
-    pub(crate) site: Site<'a>,
+    pub(crate) site: BlockOf<'a>,
     pub(crate) block: &'a BlockOrder,
     pub(crate) part: Part,
 }

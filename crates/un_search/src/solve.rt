@@ -107,7 +107,7 @@ fn try_better(alloc: Global, m: &Model, now: Incumbent, nodes: u32) -> Result<St
 }
 
 /// Attempts from a solution on, each under the cost of the best one so far, until there is none that costs less or the nodes are used.
-fn improved(alloc: Global, m: &Model, start: Incumbent, nodes: u32) -> Result<Last, NoMemory>
+fn best_attempts(alloc: Global, m: &Model, start: Incumbent, nodes: u32) -> Result<Last, NoMemory>
     requires postable { IsPostable m.now }
     requires short { All IsShort m.now.ext.blocks }
     requires some { 0 < nodes }
@@ -150,7 +150,7 @@ fn from_best(alloc: Global, m: &Model, best: Incumbent, nodes: u32) -> Result<An
     ensures found { IfOk result (OnOther ⊥) }
     ensures few { nodes < 3 → IfOk result (OnCode (λ s cost bound t. IsByRounds m.now (Some best.best.solution) s)) }
 {
-    let last = improved(alloc, m, best, nodes)?;
+    let last = best_attempts(alloc, m, best, nodes)?;
     Ok(code_of(last))
 }
 

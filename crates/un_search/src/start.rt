@@ -184,7 +184,7 @@ fn made(
 }
 
 /// The solution that costs less, the first one on a tie.
-fn cheaper(m: &Model, one: Solution, other: Solution) -> Solution
+fn cheaper_solution(m: &Model, one: Solution, other: Solution) -> Solution
     requires postable { IsPostable m.now }
     requires one { IsSolution m.now one }
     requires other { IsSolution m.now other }
@@ -212,7 +212,7 @@ fn cheapest(m: &Model, start: Option<Solution>, other: Option<Solution>) -> Opti
         None => other,
         Some(one) => match other {
             None => Some(one),
-            Some(other) => Some(cheaper(m, one, other)),
+            Some(other) => Some(cheaper_solution(m, one, other)),
         },
     }
 }
@@ -249,7 +249,7 @@ fn is_in_reach(m: &Model, decisions: u32) -> bool {
 }
 
 /// The best solution that is found near one, where there are nodes for it and it costs more than the least.
-fn improved(
+fn near_start(
     alloc: Global,
     m: &Model,
     first: Incumbent,
@@ -335,7 +335,7 @@ fn from_solution(
         Some(solution) => {
             let best = best_of(alloc, m, solution, nodes)?;
             let posting = lowered(alloc, m, Some(root), best.cost)?;
-            let near = improved(alloc, m, Incumbent { best, posting }, least, nodes)?;
+            let near = near_start(alloc, m, Incumbent { best, posting }, least, nodes)?;
             Ok(Some(near))
         }
     }

@@ -8,12 +8,12 @@ use un_model::model::{BlockVars, Model, OpVars, Solution, TempVars};
 
 /// Cycles of a block, from `low` to `high`.
 #[derive(Clone, Copy)]
-pub(crate) struct Window {
+pub(crate) struct CycleRange {
     pub(crate) low: u32,
     pub(crate) high: u32,
 }
 
-impl Window {
+impl CycleRange {
     fn has(self, cycle: u32) -> bool {
         self.low <= cycle && cycle <= self.high
     }
@@ -34,7 +34,7 @@ pub(crate) enum Part {
     /// The cycles and registers of what it issues.
     Cycles,
     /// What it issues in a window of its cycles.
-    In(Window),
+    In(CycleRange),
 }
 
 /// A value that a variable is to keep, where the rounds let it.
@@ -46,7 +46,7 @@ pub(crate) struct Hint {
 
 /// A block of a solution.
 #[derive(Clone, Copy)]
-pub(crate) struct Site<'a> {
+pub(crate) struct BlockOf<'a> {
     /// The model.
     pub(crate) m: &'a Model,
     /// The solution near which another one is looked for.
@@ -57,7 +57,7 @@ pub(crate) struct Site<'a> {
     pub(crate) first: usize,
 }
 
-impl Site<'_> {
+impl BlockOf<'_> {
     /// The value of a variable; 0 where there is none of this number.
     pub(crate) fn value(self, v: VarId) -> u32 {
         match self.solution.values.as_slice().get(v.0 as usize) {
@@ -103,7 +103,7 @@ impl Site<'_> {
     }
 
     /// Whether each operation of the block is free: those in the window, and the copies that are not made of what they define.
-    pub(crate) fn free(self, alloc: Global, window: Window) -> Result<Vec<bool>, AllocError> {
+    pub(crate) fn free(self, alloc: Global, window: CycleRange) -> Result<Vec<bool>, AllocError> {
         let mut free = Vec::new(alloc);
         for op in self.block.ops.as_slice() {
             let cycle = self.cycle(op);
@@ -164,7 +164,7 @@ impl Site<'_> {
     fn hint_cycles(
         self,
         free: &[bool],
-        window: Window,
+        window: CycleRange,
         hints: &mut Vec<Hint>,
     ) -> Result<(), AllocError> {
         for (op, is_free) in self.block.ops.as_slice().iter().zip(free) {
@@ -182,7 +182,7 @@ impl Site<'_> {
     fn hint_outside(
         self,
         alloc: Global,
-        window: Window,
+        window: CycleRange,
         hints: &mut Vec<Hint>,
     ) -> Result<(), AllocError> {
         let free = self.free(alloc, window)?;

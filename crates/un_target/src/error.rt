@@ -1,7 +1,7 @@
 //! Why a text is no table's.
 
 ghost use Rattle.std.specs.Prelude.{◌≡◌};
-ghost use Rattle.un_target.specs.Causes.{code_of};
+ghost use Rattle.un_target.specs.Causes.{code_of, table_fault_name};
 
 /// Why a text is no table's. Each cause stands where none before it does.
 #[derive(Clone, Copy, PartialEq)]
@@ -31,6 +31,20 @@ impl TableCause {
             TableCause::BadUse => 4,
             TableCause::BadSaved => 5,
         }
+    }
+}
+
+/// The name of the cause of a number, and no byte for another number.
+pub fn name_of(code: u8) -> &'static [u8]
+    ensures { result.now ≡ table_fault_name code }
+{
+    match code {
+        1 => b"NotJson",
+        2 => b"BadShape",
+        3 => b"BadLatency",
+        4 => b"BadUse",
+        5 => b"BadSaved",
+        _ => b"",
     }
 }
 

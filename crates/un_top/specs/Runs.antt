@@ -1,5 +1,5 @@
 -- What a run of the program leaves on `out` and `err`.
-use Rattle.std.specs.Prelude.{ℕ, ◌≡◌, ◌⊎◌, List, [], ◌∷◌, codes, nat_eq, if◌then◌else◌}
+use Rattle.std.specs.Prelude.{ℕ, ◌≡◌, ◌⊎◌, List, [], ◌∷◌, codes}
 use Rattle.std.specs.Prelude.{IfSome}
 use Rattle.std.specs.declared.option.Option.{Option}
 use Rattle.std.specs.List.{concat}
@@ -9,12 +9,14 @@ use Rattle.un_commands.specs.Commands.{IsCommand, IsBadWord}
 use Rattle.un_commands.specs.declared.command.Command.{Command}
 use Rattle.un_commands.specs.declared.command.Command.TheVariants.{Reads}
 use Rattle.un_commands.specs.declared.command.ReadingCommand.{ReadingCommand}
+use Rattle.un_faults.specs.Codes.{fault_name}
 use Rattle.un_outside.specs.Causes.{Rose, AppendsPrefix}
 use Rattle.un_outside.specs.declared.status.Status.{Status}
 use Rattle.un_outside.specs.declared.status.Status.TheVariants.{Done, Infeasible, Spent, TextFault, Usage, ReadFault, WriteFault, NoMemory, No}
 use Rattle.un_outside.specs.declared.status.Status.TheVariants.{BadReport, BadTable, Found, Cut, NoLog, BadSteps}
 use Rattle.un_runs.specs.declared.refused.Refused.{Refused}
 use Rattle.un_runs.specs.declared.refused.Refused.TheVariants as RefusedBy
+use Rattle.un_target.specs.Causes.{table_fault_name}
 use Rattle.un_top.specs.Behaviours.{Behaviour, behaviour_of, IsOutput, Ends}
 
 -- ---- answers
@@ -162,33 +164,6 @@ AnswersAccepted _ = Unit {0}
 -- a run whose output is written whole ends as its command does
 abbrev pub IsAnswer : List (List ℕ) → Status → Type 0
 IsAnswer words status = IsWritten status → EndsSo words status
-
--- the name of a fault of a text, and none for another number
-abbrev pub fault_name : ℕ → List ℕ
-fault_name code =
-    if nat_eq code 1 then codes "BadByte" else
-    if nat_eq code 2 then codes "BadLine" else
-    if nat_eq code 3 then codes "WideLiteral" else
-    if nat_eq code 4 then codes "DupLabel" else
-    if nat_eq code 5 then codes "UnknownLabel" else
-    if nat_eq code 6 then codes "NoBlock" else
-    if nat_eq code 7 then codes "AfterEnd" else
-    if nat_eq code 8 then codes "FallsOff" else
-    if nat_eq code 9 then codes "JumpToEntry" else
-    if nat_eq code 10 then codes "KindClash" else
-    if nat_eq code 11 then codes "MixedResult" else
-    if nat_eq code 12 then codes "LiveAtEntry" else
-    if nat_eq code 13 then codes "TooMany" else
-    if nat_eq code 14 then codes "BadFreq" else []
-
--- the name of a cause why there is no table, and none for another number
-abbrev pub table_fault_name : ℕ → List ℕ
-table_fault_name code =
-    if nat_eq code 1 then codes "NotJson" else
-    if nat_eq code 2 then codes "BadShape" else
-    if nat_eq code 3 then codes "BadLatency" else
-    if nat_eq code 4 then codes "BadUse" else
-    if nat_eq code 5 then codes "BadSaved" else []
 
 abbrev pub table_line : ℕ → List ℕ
 table_line code = concat (codes "bad table: " ∷ decimal code ∷ codes " " ∷ table_fault_name code ∷ codes "\n" ∷ [])

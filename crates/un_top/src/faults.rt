@@ -4,35 +4,14 @@ ghost use Rattle.std.specs.Prelude.{◌≡◌, ◌⊎◌, ◌++◌, ℕ, ◌<◌
 ghost use Rattle.std.specs.List.{concat};
 ghost use Rattle.std.specs.Io.KnownBytes.{Appends};
 ghost use Rattle.un_outside.specs.Causes.{Rose, AppendsPrefix};
-ghost use Rattle.un_top.specs.Runs.{fault_name, fault_line, table_fault_name, table_line, numbered, line_of};
+ghost use Rattle.un_top.specs.Runs.{fault_line, table_line, numbered, line_of};
 
 use itoa::Buffer;
+use un_faults::fault;
 use un_outside::outside::{Failed, Sink};
 use un_outside::status::Status;
 use un_outside::transfer::write_all;
-
-/// The name of a fault of a text, and none for another number.
-fn fault_name(code: u8) -> &'static [u8]
-    ensures { result.now ≡ fault_name code }
-{
-    match code {
-        1 => b"BadByte",
-        2 => b"BadLine",
-        3 => b"WideLiteral",
-        4 => b"DupLabel",
-        5 => b"UnknownLabel",
-        6 => b"NoBlock",
-        7 => b"AfterEnd",
-        8 => b"FallsOff",
-        9 => b"JumpToEntry",
-        10 => b"KindClash",
-        11 => b"MixedResult",
-        12 => b"LiveAtEntry",
-        13 => b"TooMany",
-        14 => b"BadFreq",
-        _ => b"",
-    }
-}
+use un_target::error;
 
 /// Writes parts one after another.
 fn write_parts<K: Sink>(sink: &mut K, parts: &[&[u8]]) -> Result<(), Failed>
@@ -70,25 +49,11 @@ fn write_fault<K: Sink>(sink: &mut K, line: u32, code: u8) -> Result<(), Failed>
     let mut code_buffer = Buffer::new();
     let line_digits = line_buffer.format(line).as_bytes();
     let code_digits = code_buffer.format(code).as_bytes();
-    let name = fault_name(code);
+    let name = fault::name_of(code);
     write_parts(
         sink,
         &[b"line ", line_digits, b": ", code_digits, b" ", name, b"\n"],
     )
-}
-
-/// The name of a cause why there is no table, and none for another number.
-fn table_fault_name(code: u8) -> &'static [u8]
-    ensures { result.now ≡ table_fault_name code }
-{
-    match code {
-        1 => b"NotJson",
-        2 => b"BadShape",
-        3 => b"BadLatency",
-        4 => b"BadUse",
-        5 => b"BadSaved",
-        _ => b"",
-    }
 }
 
 /// Writes the line for a table that is refused.
@@ -99,7 +64,7 @@ fn write_table<K: Sink>(sink: &mut K, code: u8) -> Result<(), Failed>
 {
     let mut buffer = Buffer::new();
     let digits = buffer.format(code).as_bytes();
-    let name = table_fault_name(code);
+    let name = error::name_of(code);
     write_parts(sink, &[b"bad table: ", digits, b" ", name, b"\n"])
 }
 

@@ -1,3 +1,4 @@
+pub mod DigitTexts
 pub mod Each
 pub mod LineShapes
 pub mod NameBytes

@@ -2,7 +2,7 @@
 use Rattle.std.proofs.Common.{◌<◌, ◌≤◌, Some}
 use Rattle.un_search.specs.Roots.{IsIncumbent}
 use Rattle.un_search.specs.Solved.{IsByRounds}
-use Rattle.un_search.proofs.solve.improved.Given as goal
+use Rattle.un_search.proofs.solve.best_attempts.Given as goal
 
 abbrev pub invariant-loop-next : goal.invariant-loop-next
 invariant-loop-next l = IsIncumbent l.m l.nodes l.now × (l.now.best.cost ≤ l.fn.start.best.cost)

@@ -3,7 +3,7 @@ use Rattle.un_search.specs.Answers.{IsLeftOfRoot}
 use Rattle.un_search.specs.Roots.{IsIncumbent}
 use Rattle.un_search.specs.Solved.{OnBetter}
 use Rattle.un_search.specs.declared.root.Incumbent.{Incumbent}
-use Rattle.un_search.proofs.solve.improved.Goals as goal
+use Rattle.un_search.proofs.solve.best_attempts.Goals as goal
 
 pub loop-next-preserved : goal.loop-next-preserved
 loop-next-preserved c =
