@@ -10,7 +10,7 @@ use crate::search::{Search, cycles_of, least_cost};
 use crate::start::best_start;
 use std::alloc::{AllocError, Global};
 use un_base::memory_error::NoMemory;
-use un_blocks::facts::Facts;
+use un_blocks::facts::{Block, Facts};
 use un_blocks::groups::{facts, waiting_facts};
 use un_isa::reg::GENERALS;
 use un_lists::items::Items;
@@ -39,9 +39,9 @@ pub fn judged(alloc: Global, m: &Model, values: Vec<u32>) -> Result<Option<Solut
 /// A search under fewer registers has so many trials at most.
 const FEWER_TRIALS: u64 = 1_000;
 
-/// From so many trials on two searches have half of them each: they come to other plans, and the better one is mostly cheaper than what one
-/// search finds.
-const HALVED_TRIALS: u64 = 4_000;
+/// From so many trials a block on two searches have half of them each: they come to other plans, and the better one is mostly cheaper than
+/// what one search finds. With fewer one search is not at its end by half.
+const HALVED_TRIALS: u64 = 5_000;
 
 /// The seed of a search's chance.
 const FIRST_SEED: u64 = 0;
@@ -49,9 +49,10 @@ const FIRST_SEED: u64 = 0;
 /// The seed of a second search's chance.
 const SECOND_SEED: u64 = 1;
 
-/// How many of so many trials one search has.
-fn share(trials: u64) -> u64 {
-    if trials < HALVED_TRIALS {
+/// How many of so many trials of a function's blocks one search has.
+fn share(trials: u64, blocks: &[Block]) -> u64 {
+    let count = u64::try_from(blocks.len()).unwrap_or(u64::MAX);
+    if trials / count.max(1) < HALVED_TRIALS {
         trials
     } else {
         trials / 2
@@ -198,8 +199,8 @@ pub fn candidate(
     budget: u32,
 ) -> Result<Option<Vec<u32>>, NoMemory> {
     let all = u64::from(budget);
-    let trials = share(all);
     let mut facts = facts(alloc, m, least_ends)?;
+    let trials = share(all, facts.blocks.as_slice());
     let Some(plan) = searched(alloc, &facts, trials, FIRST_SEED)? else {
         return Ok(None);
     };
@@ -216,10 +217,10 @@ pub fn candidate(
     Ok(Some(best.values))
 }
 
-/// A solution by at most `budget` trials of blocks and an eighth more: of one search, or from 4,000 on of two with half of them each. Where
-/// jumps may issue beside what they test, the second search is as if they waited, with as many trials as the first, and one with a third as
-/// many goes on from what it finds; where options limit the registers and the solution costs more than the least, more follow under fewer
-/// registers. It follows from the model, the bounds and the budget alone; None where none was found.
+/// A solution by at most `budget` trials of blocks and an eighth more: of one search, or, from 5,000 a block on, of two with half of them
+/// each. Where jumps may issue beside what they test, there is a second search in any case, as if they waited, with as many trials as the
+/// first, and one with a third as many goes on from what it finds; where options limit the registers and the solution costs more than the
+/// least, more follow under fewer registers. It follows from the model, the bounds and the budget alone; None where none was found.
 /// `least_ends` has a lower bound of each block's end: a block that has reached it gets no more trials. A wrong one makes the answer
 /// worse, and not wrong.
 ///
