@@ -28,7 +28,7 @@ const LEAST_TRIALS: u64 = 1_000;
 const STALE: u64 = 4;
 
 /// A plan that costs more than the present one is gone on from once in so many times.
-const DETOUR: u64 = 4;
+const DETOUR: u64 = 2;
 
 /// The trials of a plan that is settled are this part of all that were allowed before: one in so many.
 const SETTLED: u64 = 8;
