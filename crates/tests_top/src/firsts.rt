@@ -131,7 +131,7 @@ block y freq 10
 block z freq 100
   %d = call h %b, %c
   ret %d
-?first 64000:cost 312\
+?first 2000:cost 312\
 |&?first 1:none";
 
 /// Appends what the first solution of a function costs.

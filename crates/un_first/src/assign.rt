@@ -144,7 +144,7 @@ fn crosses_call(facts: &Facts, name: u32) -> bool {
 }
 
 /// Whether the function calls.
-pub(crate) fn calls(facts: &Facts) -> bool {
+fn calls(facts: &Facts) -> bool {
     for block in &facts.blocks {
         if block.has_call() {
             return true;

@@ -1,6 +1,5 @@
 //! Which block's places are changed, and what its schedule would like.
 
-use crate::assign::calls;
 use crate::chance::Noise;
 use crate::changes::{Change, saved_home};
 use crate::plan::{BlockPlan, Plan};
@@ -129,10 +128,20 @@ impl<'a> Reading<'a> {
     }
 }
 
-/// Where a value from a block's start would stand, of which a copy went to this register: there, but for the link of a function with calls,
-/// which each of them overwrites: that stands where another saved value does.
-fn wished(facts: &Facts, register: u32, noise: &mut Noise) -> u32 {
-    if register == LINK && calls(facts) {
+/// Whether a call stands between two blocks at whose ends a saved value has one place.
+fn is_overwritten(facts: &Facts, group: u32, key: u32) -> bool {
+    for block in &facts.blocks {
+        if block.has_call() && facts.is_beside(group, block.group_out, key) {
+            return true;
+        }
+    }
+    false
+}
+
+/// Where a value from a block's start would stand, of which a copy went to this register: there, but for the link where a call overwrites
+/// it: that stands where another saved value does.
+fn wished(facts: &Facts, group: u32, key: u32, register: u32, noise: &mut Noise) -> u32 {
+    if register == LINK && is_overwritten(facts, group, key) {
         saved_home(facts, facts.kept(), noise)
     } else {
         register
@@ -163,7 +172,7 @@ pub(crate) fn wish_of(
         Some(Change {
             group: block.group_in,
             key: x.key,
-            place: wished(facts, reading.register(op.result), noise),
+            place: wished(facts, block.group_in, x.key, reading.register(op.result), noise),
         })
     } else {
         Some(Change {
