@@ -128,10 +128,13 @@ impl<'a> Reading<'a> {
     }
 }
 
-/// Whether a call stands between two blocks at whose ends a saved value has one place.
-fn is_overwritten(facts: &Facts, group: u32, key: u32) -> bool {
-    for block in &facts.blocks {
-        if block.has_call() && facts.is_beside(group, block.group_out, key) {
+/// Whether a call overwrites the link where it would stand in its register from a group to this block's start, or from there on.
+fn is_overwritten(facts: &Facts, block: &Block, key: u32) -> bool {
+    if block.has_call() {
+        return true;
+    }
+    for other in &facts.blocks {
+        if other.has_call() && facts.is_beside(block.group_in, other.group_out, key) {
             return true;
         }
     }
@@ -140,8 +143,8 @@ fn is_overwritten(facts: &Facts, group: u32, key: u32) -> bool {
 
 /// Where a value from a block's start would stand, of which a copy went to this register: there, but for the link where a call overwrites
 /// it: that stands where another saved value does.
-fn wished(facts: &Facts, group: u32, key: u32, register: u32, noise: &mut Noise) -> u32 {
-    if register == LINK && is_overwritten(facts, group, key) {
+fn wished(facts: &Facts, block: &Block, key: u32, register: u32, noise: &mut Noise) -> u32 {
+    if register == LINK && is_overwritten(facts, block, key) {
         saved_home(facts, facts.kept(), noise)
     } else {
         register
@@ -172,7 +175,7 @@ pub(crate) fn wish_of(
         Some(Change {
             group: block.group_in,
             key: x.key,
-            place: wished(facts, block.group_in, x.key, reading.register(op.result), noise),
+            place: wished(facts, block, x.key, reading.register(op.result), noise),
         })
     } else {
         Some(Change {
