@@ -26,14 +26,15 @@ fn rises(values: &[u32]) -> bool
 }
 
 /// The domain of these values, where they are one.
-fn listed(values: Items<u32>) -> Option<Domain>
-    ensures { MatchOption result ⊤ IsDomain }
+fn listed(alloc: Global, values: Items<u32>) -> Result<Option<Domain>, AllocError>
+    ensures { IfOk result (λ d. MatchOption d ⊤ IsDomain) }
 {
     let few = !values.is_empty() && values.len() <= 1000;
     if few && rises(values.as_slice()) {
-        Some(Domain::Set(values))
+        let d = Domain::of(alloc, values.into_vec())?;
+        Ok(Some(d))
     } else {
-        None
+        Ok(None)
     }
 }
 
@@ -66,7 +67,7 @@ fn domain(alloc: Global, set: &[u8]) -> Result<Option<Domain>, AllocError>
         return Ok(range(number(lo), number(hi)));
     }
     let values = numbers(alloc, set)?;
-    Ok(listed(values))
+    listed(alloc, values)
 }
 
 /// The domains of variables with the sets of a text, where each is one.

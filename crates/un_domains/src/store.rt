@@ -99,7 +99,7 @@ fn copy_shapes(alloc: Global, shapes: &[Shape]) -> Result<Vec<Shape>, AllocError
 {
     let mut same = Vec::new(alloc);
     for shape in shapes {
-        let first = shape.first.copy(alloc)?;
+        let first = shape.first.copy()?;
         same.push(Shape {
             at: shape.at,
             n: shape.n,

@@ -205,6 +205,9 @@ pub fn candidate(
         return Ok(None);
     };
     let mut best = values_of(alloc, &facts, &plan)?;
+    if best.cycles <= least_cost(&facts) {
+        return Ok(Some(best.values));
+    }
     if facts.has_fresh_jump() {
         let waiting = waiting_facts(alloc, m, least_ends)?;
         improve_by_waiting(alloc, &facts, &waiting, trials, &mut best)?;

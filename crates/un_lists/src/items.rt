@@ -106,6 +106,16 @@ impl<T> Items<T> {
     }
 }
 
+impl<T: Copy> Items<T> {
+    /// These items more at the end.
+    pub fn append(&mut self, more: &[T]) -> Result<(), AllocError>
+        ensures ok { OnOk result (self.new ≡ self.old ++ more.now) }
+        ensures err { OnErr result (self.new ≡ self.old) }
+    {
+        self.items.extend_from_slice(more)
+    }
+}
+
 impl<'a, T> IntoIterator for &'a Items<T> {
     type Item = &'a T;
 

@@ -4,3 +4,4 @@
 pub mod exact;
 pub mod few;
 pub mod items;
+pub mod shared;

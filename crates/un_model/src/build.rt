@@ -16,14 +16,14 @@ ghost use Rattle.un_model.specs.Variables.{block_domains, blocks_domains, own_ho
 use crate::arcs::arcs;
 use crate::homes::homes;
 use crate::model::{BlockVars, Model, OpVars, Options, TempVars};
-use crate::registers::{Scope, carried, domain, is_truth};
+use crate::registers::{Scope, carried, domain, first_slots, is_truth};
 use std::alloc::Global;
 use un_base::ids::{OpId, TempId, VarId};
 use un_base::memory_error::NoMemory;
 use un_base::numbers::{advance, number};
 use un_domains::domain::Domain;
 use un_ir::extended::{Ext, ExtBlock, ExtKind, ExtOp, Operand, RELOAD, TO_PREDICATE};
-use un_isa::reg::SLOTS;
+use un_isa::reg::{FIRST_SLOT, SLOTS};
 use un_isa::reg_set::saved_registers;
 use un_lists::items::Items;
 
@@ -138,7 +138,7 @@ fn add_results(
     op: &ExtOp,
 ) -> Result<(), NoMemory>
     requires scope { IsScope scope.now.ext.now scope.now.is_entry scope.now.block.now scope.now.saved.now scope.now.homes.now }
-    requires slots { scope.now.options.now.slots ≤ SLOTS }
+    requires slots { scope.now.slots.now ≡ range_with_len FIRST_SLOT scope.now.options.now.slots }
     ensures domains { OnOk result
         (domains.new ≡ domains.old ++ places_from (result_domain scope.now.ext.now scope.now.options.now scope.now.is_entry
         scope.now.block.now op.now) 0 op.now.results) }
@@ -178,7 +178,7 @@ fn add_op(
     op: &ExtOp,
 ) -> Result<OpVars, NoMemory>
     requires scope { IsScope scope.now.ext.now scope.now.is_entry scope.now.block.now scope.now.saved.now scope.now.homes.now }
-    requires slots { scope.now.options.now.slots ≤ SLOTS }
+    requires slots { scope.now.slots.now ≡ range_with_len FIRST_SLOT scope.now.options.now.slots }
     ensures domains { OnOk result
         (domains.new ≡ domains.old ++ op_domains scope.now.ext.now scope.now.options.now scope.now.is_entry scope.now.block.now
         scope.now.block.now.horizon op.now) }
@@ -206,7 +206,7 @@ fn add_ops(
     first: u32,
 ) -> Result<Items<OpVars>, NoMemory>
     requires scope { IsScope scope.now.ext.now scope.now.is_entry scope.now.block.now scope.now.saved.now scope.now.homes.now }
-    requires slots { scope.now.options.now.slots ≤ SLOTS }
+    requires slots { scope.now.slots.now ≡ range_with_len FIRST_SLOT scope.now.options.now.slots }
     ensures domains { OnOk result
         (domains.new ≡ domains.old ++ ops_domains scope.now.ext.now scope.now.options.now scope.now.is_entry scope.now.block.now
         scope.now.block.now.horizon scope.now.block.now.ops) }
@@ -235,7 +235,7 @@ fn add_block(
     first: u32,
 ) -> Result<BlockVars, NoMemory>
     requires scope { IsScope scope.now.ext.now scope.now.is_entry scope.now.block.now scope.now.saved.now scope.now.homes.now }
-    requires slots { scope.now.options.now.slots ≤ SLOTS }
+    requires slots { scope.now.slots.now ≡ range_with_len FIRST_SLOT scope.now.options.now.slots }
     ensures domains { OnOk result
         (domains.new ≡ domains.old ++ block_domains scope.now.ext.now scope.now.options.now scope.now.is_entry scope.now.block.now.horizon
         scope.now.block.now) }
@@ -262,12 +262,13 @@ fn add_scoped(
     e: &Ext,
     o: &Options,
     saved: &Items<u32>,
+    slots: &[u32],
     is_entry: bool,
     block: &ExtBlock,
     first: u32,
 ) -> Result<BlockVars, NoMemory>
     requires saved { saved.now ≡ saved_registers e.now.table }
-    requires slots { o.now.slots ≤ SLOTS }
+    requires slots { slots.now ≡ range_with_len FIRST_SLOT o.now.slots }
     ensures domains { OnOk result
         (domains.new ≡ domains.old ++ block_domains e.now o.now is_entry block.now.horizon block.now) }
     ensures temps { OnOk result (temps.new ≡ temps.old ++ ops_temps first (length domains.old) block.now.ops) }
@@ -279,6 +280,7 @@ fn add_scoped(
         saved,
         homes: &homes,
         options: o,
+        slots,
         is_entry,
         block,
     };
@@ -300,11 +302,23 @@ fn add_blocks(
     ensures vars { IfOk result (λ vars. vars ≡ blocks_vars (length domains.old) e.now.blocks) }
 {
     let saved = saved_registers(alloc, &e.table)?;
+    let slots = first_slots(alloc, o.slots)?;
     let mut vars = Items::new(alloc);
     let mut n = 0;
     for k in 0..e.blocks.len() {
         let block = e.blocks.get(k);
-        let v = add_scoped(alloc, domains, temps, e, o, &saved, k == 0, block, n)?;
+        let v = add_scoped(
+            alloc,
+            domains,
+            temps,
+            e,
+            o,
+            &saved,
+            slots.as_slice(),
+            k == 0,
+            block,
+            n,
+        )?;
         vars.push(v)?;
         n = advance(n, block.ops.len())?;
     }

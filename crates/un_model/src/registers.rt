@@ -4,6 +4,7 @@ ghost use Rattle.std.specs.Prelude.{◌≡◌, ℕ, ◌+◌, ◌-◌, ◌<◌, �
 ghost use Rattle.std.specs.Prelude.{slice_get, slice_index};
 ghost use Rattle.std.specs.List.{range_with_len};
 ghost use Rattle.std.specs.Option.{option_map};
+ghost use Rattle.un_domains.specs.declared.domain.Domain.TheVariants.{Set};
 ghost use Rattle.un_isa.specs.RegSets.{has};
 ghost use Rattle.un_isa.specs.Registers.{saved_registers};
 ghost use Rattle.un_model.specs.Registers.{is_assignable, reg_at, name_home, start_home, call_home, result_home, is_pred, is_pred_name};
@@ -156,6 +157,8 @@ pub(crate) struct Scope<'a> {
     /// The homes of the block's values.
     pub(crate) homes: &'a Homes,
     pub(crate) options: &'a Options,
+    /// The slots that the options allow.
+    pub(crate) slots: &'a [u32],
     pub(crate) is_entry: bool,
     pub(crate) block: &'a ExtBlock,
 }
@@ -220,6 +223,16 @@ fn push_range(numbers: &mut Items<u32>, first: u32, count: u32) -> Result<(), No
     Ok(())
 }
 
+/// The first so many slots.
+pub(crate) fn first_slots(alloc: Global, count: u32) -> Result<Items<u32>, NoMemory>
+    requires { count ≤ SLOTS }
+    ensures { IfOk result (λ slots. slots ≡ range_with_len FIRST_SLOT count) }
+{
+    let mut slots = Items::new(alloc);
+    push_range(&mut slots, FIRST_SLOT, count)?;
+    Ok(slots)
+}
+
 /// p0 to p3 where the value is a truth value, after the registers so far.
 fn push_predicates(numbers: &mut Items<u32>, truth: bool) -> Result<(), NoMemory>
     ensures { OnOk result (numbers.new ≡ numbers.old ++ (if truth then predicate_registers else [])) }
@@ -233,25 +246,15 @@ fn push_predicates(numbers: &mut Items<u32>, truth: bool) -> Result<(), NoMemory
 /// The assignable registers and the homes of a value, p0 to p3 where it is a truth value, and the slots.
 fn value_registers(alloc: Global, scope: &Scope<'_>, x: TempId) -> Result<Items<u32>, NoMemory>
     requires scope { IsScope scope.now.ext.now scope.now.is_entry scope.now.block.now scope.now.saved.now scope.now.homes.now }
-    requires slots { scope.now.options.now.slots ≤ SLOTS }
+    requires slots { scope.now.slots.now ≡ range_with_len FIRST_SLOT scope.now.options.now.slots }
     ensures { IfOk result
         (λ registers. registers ≡ value_registers scope.now.ext.now scope.now.options.now.regs scope.now.options.now.slots
         scope.now.is_entry scope.now.block.now x) }
 {
     let mut registers = general(alloc, scope, x)?;
     push_predicates(&mut registers, is_truth(scope, x))?;
-    push_range(&mut registers, FIRST_SLOT, scope.options.slots)?;
+    registers.append(scope.slots)?;
     Ok(registers)
-}
-
-/// The numbers after those so far.
-fn push_all(numbers: &mut Items<u32>, more: &[u32]) -> Result<(), NoMemory>
-    ensures { OnOk result (numbers.new ≡ numbers.old ++ more.now) }
-{
-    for n in more {
-        numbers.push(*n)?;
-    }
-    Ok(())
 }
 
 /// Whether the first of these numbers is 0.
@@ -273,8 +276,16 @@ fn with_zero(alloc: Global, numbers: Items<u32>) -> Result<Items<u32>, NoMemory>
     }
     let mut all = Items::new(alloc);
     all.push(0)?;
-    push_all(&mut all, numbers.as_slice())?;
+    all.append(numbers.as_slice())?;
     Ok(all)
+}
+
+/// A list as a domain.
+fn listed(alloc: Global, registers: Items<u32>) -> Result<Domain, NoMemory>
+    ensures { IfOk result (λ d. d ≡ Set registers) }
+{
+    let d = Domain::of(alloc, registers.into_vec())?;
+    Ok(d)
 }
 
 /// The home alone.
@@ -285,13 +296,13 @@ fn home_domain(alloc: Global, home: Option<Reg>) -> Result<Domain, NoMemory>
     if let Some(reg) = home {
         registers.push(reg.0)?;
     }
-    Ok(Domain::Set(registers))
+    listed(alloc, registers)
 }
 
 /// The registers of the value `x` at place `j` of those at a block's start.
 fn start_domain(alloc: Global, scope: &Scope<'_>, j: usize, x: TempId) -> Result<Domain, NoMemory>
     requires scope { IsScope scope.now.ext.now scope.now.is_entry scope.now.block.now scope.now.saved.now scope.now.homes.now }
-    requires slots { scope.now.options.now.slots ≤ SLOTS }
+    requires slots { scope.now.slots.now ≡ range_with_len FIRST_SLOT scope.now.options.now.slots }
     ensures { IfOk result
         (λ d. d ≡ start_domain scope.now.ext.now scope.now.options.now scope.now.is_entry scope.now.block.now j x) }
 {
@@ -308,7 +319,7 @@ fn start_domain(alloc: Global, scope: &Scope<'_>, j: usize, x: TempId) -> Result
         return Ok(d);
     }
     let registers = value_registers(alloc, scope, x)?;
-    Ok(Domain::Set(registers))
+    listed(alloc, registers)
 }
 
 /// p0 to p3.
@@ -332,22 +343,22 @@ fn source_domain(alloc: Global, scope: &Scope<'_>, op: Op, x: TempId) -> Result<
     }
     if gives_truth(op) {
         let registers = predicates(alloc)?;
-        return Ok(Domain::Set(registers));
+        return listed(alloc, registers);
     }
     let registers = general(alloc, scope, x)?;
-    Ok(Domain::Set(registers))
+    listed(alloc, registers)
 }
 
 /// The registers of a copy of value `y`.
 fn copy_domain(alloc: Global, scope: &Scope<'_>, y: TempId) -> Result<Domain, NoMemory>
     requires scope { IsScope scope.now.ext.now scope.now.is_entry scope.now.block.now scope.now.saved.now scope.now.homes.now }
-    requires slots { scope.now.options.now.slots ≤ SLOTS }
+    requires slots { scope.now.slots.now ≡ range_with_len FIRST_SLOT scope.now.options.now.slots }
     ensures { IfOk result
         (λ d. d ≡ copy_registers scope.now.ext.now scope.now.options.now scope.now.is_entry scope.now.block.now y) }
 {
     let registers = value_registers(alloc, scope, y)?;
     let all = with_zero(alloc, registers)?;
-    Ok(Domain::Set(all))
+    listed(alloc, all)
 }
 
 /// The registers of the result `x` at place `j` of an operation.
@@ -359,7 +370,7 @@ pub(crate) fn domain(
     x: TempId,
 ) -> Result<Domain, NoMemory>
     requires scope { IsScope scope.now.ext.now scope.now.is_entry scope.now.block.now scope.now.saved.now scope.now.homes.now }
-    requires slots { scope.now.options.now.slots ≤ SLOTS }
+    requires slots { scope.now.slots.now ≡ range_with_len FIRST_SLOT scope.now.options.now.slots }
     ensures { IfOk result
         (λ d. d ≡ result_domain scope.now.ext.now scope.now.options.now scope.now.is_entry scope.now.block.now op.now j x) }
 {
@@ -367,7 +378,7 @@ pub(crate) fn domain(
         ExtKind::In => start_domain(alloc, scope, j, x)?,
         ExtKind::Body(source) => source_domain(alloc, scope, source.op, x)?,
         ExtKind::Copy(_) => copy_domain(alloc, scope, carried(op, x))?,
-        _ => Domain::Set(Items::new(alloc)),
+        _ => listed(alloc, Items::new(alloc))?,
     };
     Ok(d)
 }

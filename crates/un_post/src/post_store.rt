@@ -17,7 +17,7 @@ fn copy_domains(alloc: Global, domains: &[Domain]) -> Result<Vec<Domain>, AllocE
 {
     let mut same = Vec::new(alloc);
     for domain in domains {
-        same.push(domain.copy(alloc)?)?;
+        same.push(domain.copy()?)?;
     }
     Ok(same)
 }

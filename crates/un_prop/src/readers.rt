@@ -16,12 +16,24 @@ pub struct Readers {
     pub rows: Vec<Items<usize>>,
 }
 
+/// For so many propagators that read a variable there is room at once.
+const EXPECTED_READERS: usize = 8;
+
+/// A row without a propagator.
+fn empty_row(alloc: Global) -> Result<Items<usize>, AllocError>
+    ensures { IfOk result (λ row. row ≡ []) }
+{
+    let row = Vec::with_capacity(alloc, EXPECTED_READERS)?;
+    Ok(Items::from_vec(row))
+}
+
 fn empty_rows(alloc: Global, vars: usize) -> Result<Vec<Items<usize>>, AllocError>
     ensures { IfOk result (λ rows. rows.items ≡ replicate vars []) }
 {
-    let mut rows = Vec::new(alloc);
+    let mut rows = Vec::with_capacity(alloc, vars)?;
     for _ in 0..vars {
-        rows.push(Items::new(alloc))?;
+        let row = empty_row(alloc)?;
+        rows.push(row)?;
     }
     Ok(rows)
 }

@@ -86,8 +86,12 @@ fn may_survive(w: &Window<'_>, mask: u64, a: &Temp) -> bool
     requires live { NoneEmpty w.now.store.now.sets }
     ensures { result ≡ may_survive mask a.now w.now.store.now.sets }
 {
+    let most = w.max(a.reg);
+    if !is_in_mask(mask, most) {
+        return true;
+    }
     let low = u64::from(w.min(a.reg));
-    let high = u64::from(w.max(a.reg)) + 1;
+    let high = u64::from(most) + 1;
     for r in low..high {
         if w.has(a.reg, r as u32) {
             if !is_in_mask(mask, r as u32) {

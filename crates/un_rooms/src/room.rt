@@ -90,12 +90,17 @@ fn no_marks(alloc: Global, count: usize) -> Result<Vec<bool>, AllocError>
     Ok(marks)
 }
 
-/// Marks of the places in which something of what these definers give may be.
-fn marks_of(alloc: Global, domains: &[Domain], sites: &[Site<'_>]) -> Result<Vec<bool>, AllocError>
-    ensures { IfOk result (λ marks. (r : ℕ) → r < FIRST_SLOT + SLOTS
+/// Marks of the first `count` places in which something of what these definers give may be.
+fn marks_of(
+    alloc: Global,
+    domains: &[Domain],
+    sites: &[Site<'_>],
+    count: u32,
+) -> Result<Vec<bool>, AllocError>
+    ensures { IfOk result (λ marks. (r : ℕ) → r < count
         → is_marked marks.items r ≡ list_any (may_have domains.now r) (definers_in sites.now)) }
 {
-    let mut marks = no_marks(alloc, PLACES as usize)?;
+    let mut marks = no_marks(alloc, count as usize)?;
     mark_sites(marks.as_mut_slice(), domains, sites);
     Ok(marks)
 }
@@ -107,13 +112,28 @@ fn marked_places(alloc: Global, marks: &[bool]) -> Result<Vec<u32>, AllocError>
     (0..PLACES).filter(|r| is_marked(marks, *r)).collect(alloc)
 }
 
+/// How many registers are marked.
+fn marked_registers(marks: &[bool]) -> usize
+    ensures { result ≡ length (filter (is_marked marks.now) (range_with_len 0 FIRST_SLOT)) }
+{
+    (0..FIRST_SLOT).filter(|r| is_marked(marks, *r)).count()
+}
+
 /// The registers and slots in which something of what these definers give may be, rising.
 fn room_of(alloc: Global, domains: &[Domain], sites: &[Site<'_>]) -> Result<Vec<u32>, AllocError>
     ensures { IfOk result (λ room. room.items ≡ room_of domains.now (definers_in sites.now)) }
 {
-    let marks = marks_of(alloc, domains, sites)?;
+    let marks = marks_of(alloc, domains, sites, PLACES)?;
     let room = marked_places(alloc, marks.as_slice())?;
     Ok(room)
+}
+
+/// How many registers there are in which something of what these definers give may be: the slots are not looked at.
+fn registers_of(alloc: Global, domains: &[Domain], sites: &[Site<'_>]) -> Result<usize, AllocError>
+    ensures { IfOk result (λ n. n ≡ length (registers_among (room_of domains.now (definers_in sites.now)))) }
+{
+    let marks = marks_of(alloc, domains, sites, FIRST_SLOT)?;
+    Ok(marked_registers(marks.as_slice()))
 }
 
 /// The registers and slots in which something of what these operations define may be, rising.
@@ -138,13 +158,6 @@ pub(crate) fn spared_count(mask: u64, room: &[u32]) -> usize
     room.iter().filter(|r| !is_in_mask(mask, **r)).count()
 }
 
-/// How many registers there are among these places.
-fn registers_among(room: &[u32]) -> usize
-    ensures { result ≡ length (registers_among room.now) }
-{
-    room.iter().filter(|r| **r < FIRST_SLOT).count()
-}
-
 /// How many registers there are in which something of what these operations of a model define may be.
 pub(crate) fn register_count(
     alloc: Global,
@@ -155,6 +168,8 @@ pub(crate) fn register_count(
     requires { definers_in sites.now ≡ definers_of m.now }
     ensures { IfOk result (λ n. n ≡ length (registers_among (block_room m.now.domains (definers_of m.now) (map place_of spots.now)))) }
 {
-    let room = block_room(alloc, m.domains.as_slice(), sites, spots)?;
-    Ok(registers_among(&room))
+    let temps = temps_in(alloc, spots)?;
+    let found = sites_at(alloc, sites, temps.as_slice())?;
+    let count = registers_of(alloc, m.domains.as_slice(), found.as_slice())?;
+    Ok(count)
 }

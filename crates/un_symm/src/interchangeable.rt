@@ -20,7 +20,7 @@ fn has(d: &Domain, x: u32) -> bool
 {
     match d {
         Domain::Range { lo, hi } => *lo <= x && x <= *hi,
-        Domain::Set(values) => values.iter().any(|value| *value == x),
+        Domain::Set(values) => values.as_slice().iter().any(|value| *value == x),
     }
 }
 

@@ -53,7 +53,7 @@ fn times(alloc: Global, blocks: &[BlockVars], n: usize) -> Result<Items<bool>, N
 }
 
 /// A domain without its upper bound where it is one of times, and else the domain once more.
-fn loosened(alloc: Global, is_time: bool, d: &Domain) -> Result<Domain, AllocError>
+fn loosened(is_time: bool, d: &Domain) -> Result<Domain, AllocError>
     ensures { IfOk result (λ loose. loose ≡ loosened is_time d.now) }
 {
     match d {
@@ -61,7 +61,7 @@ fn loosened(alloc: Global, is_time: bool, d: &Domain) -> Result<Domain, AllocErr
             lo: *lo,
             hi: u32::MAX,
         }),
-        _ => d.copy(alloc),
+        _ => d.copy(),
     }
 }
 
@@ -72,7 +72,7 @@ pub(crate) fn loose_domains(alloc: Global, m: &Model) -> Result<Items<Domain>, N
     let times = times(alloc, m.blocks.as_slice(), m.domains.len())?;
     let mut loose = Items::new(alloc);
     for k in 0..m.domains.len() {
-        loose.push(loosened(alloc, *times.get(k), m.domains.get(k))?)?;
+        loose.push(loosened(*times.get(k), m.domains.get(k))?)?;
     }
     Ok(loose)
 }

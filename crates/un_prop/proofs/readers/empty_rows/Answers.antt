@@ -5,5 +5,5 @@ use Rattle.un_prop.proofs.readers.empty_rows.Goals as goal
 
 pub loop-preserved : goal.loop-preserved
 loop-preserved c =
-    c.in_ok-push.ensures.items ∙ (ap (λ (xs : Sets). xs ++ c.new.result ∷ []) c.loop.invariant
-    ∙ (ap (λ (x : List ℕ). replicate c.loop.counter [] ++ x ∷ []) c.new.ensures ∙ replicate-append-replicate c.loop.counter 1 []))
+    c.in_ok-push.ensures.items ∙ (ap (λ (xs : Sets). xs ++ c.in_ok-row.row ∷ []) c.loop.invariant
+    ∙ (ap (λ (x : List ℕ). replicate c.loop.counter [] ++ x ∷ []) c.in_ok-row.ensures ∙ replicate-append-replicate c.loop.counter 1 []))
