@@ -1,10 +1,13 @@
 -- What a flag that says nothing yet leaves as it is.
-use Rattle.std.proofs.Common.{Bool, true, false, List, [], ◌∷◌, ◌≡◌, ◌&&◌, ◌∙◌, ◌-◌, All, Some, option_and_then, refl, ap}
+use Rattle.std.proofs.Common.{ℕ, Bool, true, false, List, [], ◌∷◌, ◌≡◌, ◌<◌, ◌&&◌, ◌∙◌, ◌-◌, All, Some, option_and_then, refl, ap}
+use Rattle.std.proofs.Common.{not, nat_eq, nat_le, arith}
+use Rattle.std.proofs.lemmas.Bool.Decides.{nat_tests}
 use Rattle.std.specs.declared.option.Option.{Option}
 use Rattle.std.specs.List.{AllByRecursion}
 use Rattle.std.proofs.lemmas.List.Elements.{recursion_from_All}
 use Rattle.un_base.specs.declared.ids.VarId.{VarId}
-use Rattle.un_domains.specs.Sets.{Sets, NoneEmpty}
+use Rattle.un_domains.specs.Sets.{Sets, NoneEmpty, set_at, has, greatest}
+use Rattle.un_domains.specs.SetLaws.{has-fold_max}
 use Rattle.un_ir.specs.declared.extended.TheConstants.{SPILL, RELOAD}
 use Rattle.un_isa.specs.declared.reg.TheConstants.{FIRST_SLOT}
 use Rattle.un_prop.specs.Among.{among, AllAmong}
@@ -12,7 +15,7 @@ use Rattle.un_prop.specs.AmongLaws.{has_among}
 use Rattle.un_prop.specs.Looks.{act_set}
 use Rattle.un_prop.specs.Rounds.{HasVars, round}
 use Rattle.un_prop.specs.When.{is_only, when_cut, other_than, up_to}
-use Rattle.un_prop.specs.WhenLaws.{when_not}
+use Rattle.un_prop.specs.WhenLaws.{when_not, when_all}
 use Rattle.un_alt.specs.declared.frame.FrameOp.{FrameOp}
 use Rattle.un_alt.specs.declared.frame.FrameUse.{FrameUse}
 use Rattle.un_alt.specs.declared.frame.FrameLeave.{FrameLeave}
@@ -26,6 +29,22 @@ module _ (vs : List VarId) (flag : VarId) (s : Sets) (k : HasVars vs s) (full : 
       → ((a : A) → P a → f a s ≡ Some s) → round f xs s ≡ Some s
   round_idle P f [] all h = refl
   round_idle P f (x ∷ xs) all h = ap (option_and_then (round f xs)) (h x all.0) ∙ round_idle P f xs all.1 h
+
+  -- a copy whose greatest instruction is before both is neither
+  pub copy_idle : (v : VarId) → among vs v ≡ true → greatest (set_at s v.0) < SPILL → touch_cut flag v s ≡ Some s
+  copy_idle v there low =
+      let other : (n : ℕ) → greatest (set_at s v.0) < n → (y : ℕ) → has (set_at s v.0) y ≡ true → not (nat_eq y n) ≡ true =
+      λ n lt y h. (let le = has-fold_max 0 (set_at s v.0) y h in
+      let b : nat_eq y n ≡ false = grind (arith, nat_tests, le, lt) in rw b refl) in
+      let next : SPILL < RELOAD = omega arith in
+      ap (option_and_then (when_cut (is_unused flag) (other_than RELOAD) v))
+      (when_all (is_unused flag) (other_than SPILL) v s (has_among vs v s there k) full (other SPILL low))
+      ∙ when_all (is_unused flag) (other_than RELOAD) v s (has_among vs v s there k) full (other RELOAD (omega (arith, low, next)))
+
+  -- a value whose greatest register is before the slots has none
+  pub slot_idle : (v : VarId) → among vs v ≡ true → greatest (set_at s v.0) < FIRST_SLOT → slot_cut flag v s ≡ Some s
+  slot_idle v there low = when_all (is_unused flag) (up_to (FIRST_SLOT - 1)) v s (has_among vs v s there k) full
+      (λ y h. (let le = has-fold_max 0 (set_at s v.0) y h in grind (arith, nat_tests, le, low)))
 
   -- the flag may be 1
   module _ (used : is_unused flag s ≡ false) where

@@ -76,7 +76,7 @@ fn is_unused(w: &Window<'_>, p: &Frame) -> bool
     !w.has(p.flag, 1)
 }
 
-/// Where the flag is not 1, a copy is no Spill and no Reload.
+/// Where the flag is not 1, a copy is no Spill and no Reload. One that can be neither any more is left alone: so are most.
 fn keep_copy(w: &mut Window<'_>, before: Pruned, p: &Frame, v: VarId) -> Pruned
     requires vars { w.old.vars.now ≡ p.now.vars }
     requires of_v { among p.now.vars v ≡ true }
@@ -86,6 +86,12 @@ fn keep_copy(w: &mut Window<'_>, before: Pruned, p: &Frame, v: VarId) -> Pruned
     ensures same_reference { w.new.store.ghost_name ≡ w.old.store.ghost_name }
     ensures vars { w.new.vars ≡ w.old.vars }
 {
+    if before == Pruned::Failed {
+        return before;
+    }
+    if w.max(v) < SPILL {
+        return before;
+    }
     let unused = is_unused(w, p);
     let first = drop_when(w, before, unused, v, SPILL);
     let still = is_unused(w, p);
@@ -115,7 +121,7 @@ fn keep_copies(w: &mut Window<'_>, before: Pruned, p: &Frame) -> Pruned
     did
 }
 
-/// Where the flag is not 1, a value at a block's start has no slot.
+/// Where the flag is not 1, a value at a block's start has no slot. One that can have none any more is left alone.
 fn keep_value(w: &mut Window<'_>, before: Pruned, p: &Frame, v: VarId) -> Pruned
     requires vars { w.old.vars.now ≡ p.now.vars }
     requires of_v { among p.now.vars v ≡ true }
@@ -125,6 +131,12 @@ fn keep_value(w: &mut Window<'_>, before: Pruned, p: &Frame, v: VarId) -> Pruned
     ensures same_reference { w.new.store.ghost_name ≡ w.old.store.ghost_name }
     ensures vars { w.new.vars ≡ w.old.vars }
 {
+    if before == Pruned::Failed {
+        return before;
+    }
+    if w.max(v) < FIRST_SLOT {
+        return before;
+    }
     let unused = is_unused(w, p);
     keep_le_when(w, before, unused, v, FIRST_SLOT - 1)
 }

@@ -2,6 +2,7 @@
 //! and what a cycle loses is counted beside them, as if it were taken.
 
 ghost use Rattle.std.specs.Prelude.{◌≡◌, ◌+◌, ◌<◌, ◌≤◌, ◌^◌, ◌&&◌, if◌then◌else◌, ℕ, length, slice_index, nat_eq, nat_lt, true, false};
+ghost use Rattle.std.specs.Prelude.{min};
 ghost use Rattle.un_isa.specs.PacketCounts.{places_of, share_of};
 ghost use Rattle.un_length.specs.Sums.{as_number};
 ghost use Rattle.un_length.specs.Rooms.{in_order};
@@ -63,29 +64,32 @@ fn one_of(t: &Timed<'_>, sort: Sort, r: Resource, s: Resource, q: u32, i: usize)
     }
 }
 
-/// How many operations of a sort may issue in cycle `q`.
-fn issuable(t: &Timed<'_>, sort: Sort, r: Resource, s: Resource, q: u32) -> u32
-    ensures count { result ≡ issuable (is_of sort r s t.now.ops.now) t.now.ops.now
-        (slice_index t.now.early.now) (slice_index t.now.late.now) q }
+/// How many operations of a sort may issue in cycle `q`, or `most` where they are more: no more than these are looked for.
+fn issuable(t: &Timed<'_>, sort: Sort, r: Resource, s: Resource, q: u32, most: u32) -> u32
+    ensures count { result ≡ min most (issuable (is_of sort r s t.now.ops.now) t.now.ops.now
+        (slice_index t.now.early.now) (slice_index t.now.late.now) q) }
     ensures few { result ≤ length t.now.ops.now }
 {
     let mut many = 0;
     for i in 0..t.ops.len() {
+        if many >= most {
+            return most;
+        }
         many += one_of(t, sort, r, s, q, i);
     }
-    many
+    many.min(most)
 }
 
 /// How many of those that take some of a resource a cycle can hold, where some of them take a scarcer one too.
 fn holds_of(t: &Timed<'_>, r: Resource, s: Resource, q: u32) -> u32
     ensures { result ≡ holds_of r s t.now.ops.now (slice_index t.now.early.now) (slice_index t.now.late.now) q }
 {
-    let first = issuable(t, Sort::First, r, s, q).min(places(r));
-    let both = issuable(t, Sort::Both, r, s, q).min(places(s));
+    let first = issuable(t, Sort::First, r, s, q, places(r));
+    let both = issuable(t, Sort::Both, r, s, q, places(s));
     places(r).min(first + both)
 }
 
-/// How many places of a packet a cycle loses.
+/// How many places of a packet a cycle loses: none where operations that take only an instruction fill it.
 fn lost_at(t: &Timed<'_>, q: u32) -> u32
     ensures { result ≡ lost_at t.now.ops.now (slice_index t.now.early.now) (slice_index t.now.late.now) q }
 {
@@ -96,8 +100,11 @@ fn lost_at(t: &Timed<'_>, q: u32) -> u32
         Resource::Memory,
         Resource::MultiplyOrControl,
         q,
-    )
-    .min(all);
+        all,
+    );
+    if free >= all {
+        return 0;
+    }
     let memory = holds_of(t, Resource::Memory, Resource::Stores, q);
     let others = holds_of(t, Resource::MultiplyOrControl, Resource::Control, q);
     all - all.min(free + (memory + others))

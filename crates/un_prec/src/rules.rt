@@ -134,7 +134,7 @@ pub fn apart(w: &mut Window<'_>, before: Pruned, link: Link) -> Pruned
     fail(w, before)
 }
 
-/// All that a link lets a store keep.
+/// All that a link lets a store keep. There is nothing to do where an operation may be inactive.
 pub(crate) fn keep_link(w: &mut Window<'_>, before: Pruned, link: Link) -> Pruned
     requires vars { LinkVars w.old.vars.now link }
     requires known { HasVars w.old.vars.now w.old.store.now.sets }
@@ -143,6 +143,12 @@ pub(crate) fn keep_link(w: &mut Window<'_>, before: Pruned, link: Link) -> Prune
     ensures same_reference { w.new.store.ghost_name ≡ w.old.store.ghost_name }
     ensures vars { w.new.vars ≡ w.old.vars }
 {
+    if before == Pruned::Failed {
+        return before;
+    }
+    if !are_sure(w, link) {
+        return before;
+    }
     let first = apart(w, before, link);
     let second = later(w, first, link);
     earlier(w, second, link)

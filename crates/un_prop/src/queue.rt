@@ -138,6 +138,17 @@ pub(crate) fn wake(places: &[usize], waiting: &mut Queue)
     }
 }
 
+/// How many values a variable has. Most have one, which their ends tell.
+fn count(store: &Store, v: VarId) -> u64
+    requires { v.0 < length store.now.sets }
+    ensures { result ≡ length (set_at store.now.sets v.0) }
+{
+    if store.is_single(v) {
+        return 1;
+    }
+    store.size(v) as u64
+}
+
 /// Lets all propagators wait that read a variable of these which has another number of values than was noted, and
 /// notes it.
 pub(crate) fn wake_changed(
@@ -161,7 +172,7 @@ pub(crate) fn wake_changed(
 {
     for v in vars {
         let at = v.0 as usize;
-        let size = store.size(*v) as u64;
+        let size = count(store, *v);
         if size != sizes.get(at) {
             sizes.set(at, size);
             wake(table[at].as_slice(), waiting);

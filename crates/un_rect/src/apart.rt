@@ -6,7 +6,7 @@ ghost use Rattle.un_prop.specs.LastLaws.{Ascend};
 ghost use Rattle.un_rect.specs.Apart.{pair_holds, ApartVars};
 
 use crate::checks::{are_apart, check_all};
-use crate::extents::{Extent, FEW, MANY, SOME, no_extent, note};
+use crate::extents::{Extent, FEW, MANY, MOST, SOME, no_extent, note};
 use crate::left::{Left, nothing_left};
 use crate::{clashes, orders};
 use un_base::ids::VarId;
@@ -95,7 +95,9 @@ impl Apart {
         check_all(w, second, temps, left, scratch.fixed.as_mut_slice())
     }
 
-    /// The same with room for few.
+    /// The same with room for few. As the next ones it is a function of its own in the program as well: a prune of any propagator would else
+    /// pay for room for the notes.
+    #[inline(never)]
     fn keep_few(&self, w: &mut Window<'_>, scratch: &mut Scratch) -> Pruned
         requires vars { w.old.vars.now ≡ self.now.vars }
         requires known { HasVars self.now.vars w.old.store.now.sets }
@@ -113,6 +115,7 @@ impl Apart {
     }
 
     /// With room for some.
+    #[inline(never)]
     fn keep_some(&self, w: &mut Window<'_>, scratch: &mut Scratch) -> Pruned
         requires vars { w.old.vars.now ≡ self.now.vars }
         requires known { HasVars self.now.vars w.old.store.now.sets }
@@ -130,6 +133,7 @@ impl Apart {
     }
 
     /// With room for many.
+    #[inline(never)]
     fn keep_many(&self, w: &mut Window<'_>, scratch: &mut Scratch) -> Pruned
         requires vars { w.old.vars.now ≡ self.now.vars }
         requires known { HasVars self.now.vars w.old.store.now.sets }
@@ -143,6 +147,24 @@ impl Apart {
     {
         let mut extents = [no_extent(); MANY];
         let mut left = [nothing_left(); MANY];
+        self.keep_noted(w, scratch, &mut extents, &mut left)
+    }
+
+    /// With room for most.
+    #[inline(never)]
+    fn keep_most(&self, w: &mut Window<'_>, scratch: &mut Scratch) -> Pruned
+        requires vars { w.old.vars.now ≡ self.now.vars }
+        requires known { HasVars self.now.vars w.old.store.now.sets }
+        requires live { NoneEmpty w.old.store.now.sets }
+        requires room { HasRoom (length w.old.store.now.sets) 0 scratch.old }
+        ensures prune { IsPrune self.now.vars (apart_cut self.now.vars self.now.temps w.old.store.now.sets) w.old.store.now
+            w.new.store.now result }
+        ensures fixed { length scratch.new.fixed.items ≡ length scratch.old.fixed.items }
+        ensures cycles { length scratch.new.cycles.items ≡ length scratch.old.cycles.items }
+        ensures same_reference { w.new.store.ghost_name ≡ w.old.store.ghost_name }
+    {
+        let mut extents = [no_extent(); MOST];
+        let mut left = [nothing_left(); MOST];
         self.keep_noted(w, scratch, &mut extents, &mut left)
     }
 }
@@ -167,7 +189,10 @@ impl Propagator for Apart {
         if self.temps.len() <= SOME {
             return self.keep_some(w, scratch);
         }
-        self.keep_many(w, scratch)
+        if self.temps.len() <= MANY {
+            return self.keep_many(w, scratch);
+        }
+        self.keep_most(w, scratch)
     }
 
     ghost keeps = { λ p s x k full there holds. apart_keeps p.vars p.ascend p.temps p.among s x k there holds };

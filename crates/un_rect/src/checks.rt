@@ -144,7 +144,7 @@ fn to_decide(w: &Window<'_>, a: &Temp, b: &Temp, noted: Option<Opened>) -> Optio
     }
 }
 
-/// Takes the value `y` from `v`, where two temporaries are not apart for it and what is written of the others.
+/// Takes the value `y` from `v`, where two temporaries are not apart for it and what is written of the others. Mostly it is gone already.
 fn try_value(
     w: &mut Window<'_>,
     before: Pruned,
@@ -164,6 +164,9 @@ fn try_value(
     ensures vars { w.new.vars ≡ w.old.vars }
 {
     if before == Pruned::Failed {
+        return before;
+    }
+    if !w.has(v, y) {
         return before;
     }
     fixed[v.0 as usize] = y;

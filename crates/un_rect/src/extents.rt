@@ -13,13 +13,15 @@ use un_prop::act::Temp;
 use un_prop::look::{greatest_time, least_time};
 use un_prop::propagator::Pruned;
 
-/// How many temporaries of a block are noted where it has few, some or many of them; those after them are looked at without a note. Room
-/// for more than a block has would cost time at each pruning.
+/// How many temporaries of a block are noted where it has few, some, many or most of them; those after them are looked at without a note.
+/// Room for more than a block has would cost time at each pruning.
 pub(crate) const FEW: usize = 64;
 
-pub(crate) const SOME: usize = 512;
+pub(crate) const SOME: usize = 192;
 
-pub(crate) const MANY: usize = 2_048;
+pub(crate) const MANY: usize = 512;
+
+pub(crate) const MOST: usize = 2_048;
 
 /// The greatest and the least start of a temporary that is sure, its last reading where one register is left, its least register and
 /// its least end, whether it is sure, and whether one register is left.

@@ -118,6 +118,9 @@ pub(crate) fn with_temp(w: &Window<'_>, before: Opened, a: &Temp) -> Opened
 {
     let first = with_var(w, before, a.reg);
     let second = with_act(w, first, a.on);
+    if is_more(second) {
+        return Opened::More;
+    }
     let third = with_time(w, second, a.at);
     with_users(w, third, a.users.as_slice())
 }

@@ -25,7 +25,23 @@ use Rattle.un_alt.specs.FrameCuts.{is_unused, is_ordered, sure_use, flag_cut, to
 use Rattle.un_alt.specs.FrameCuts.{early_test}
 use Rattle.un_alt.specs.FrameCuts.{order_cut, entry_cut, copy_cut, call_cut, left_cut, use_steps, op_steps, order_steps, OrderVars}
 use Rattle.un_alt.proofs.Orders.{late_is, going}
+use Rattle.un_alt.proofs.Idle.{copy_idle}
 use Rattle.un_alt.proofs.frame_cuts.keep_copy.Goals as goal
+
+pub max-requires-clause-some : goal.max-requires-clause-some
+max-requires-clause-some c = c.requires.live (going c.args.before c.if-eq.ensures) c.args.v.0
+    (has_among c.args.p.now.vars c.args.v c.args.w.now.store.now.sets c.requires.of_v c.requires.known)
+
+pub max-requires-clause-there : goal.max-requires-clause-there
+max-requires-clause-there c = has_among c.args.p.now.vars c.args.v c.args.w.now.store.now.sets c.requires.of_v c.requires.known
+
+pub returns-then-max-lt-SPILL-clause-step : goal.returns-then-max-lt-SPILL-clause-step
+returns-then-max-lt-SPILL-clause-step c =
+    let p = c.args.p.now in
+    let v = c.args.v in
+    let s = c.args.w.now.store.now in
+    stepped_same c.args.w.now.vars.now (touch_cut p.flag v) s c.args.before (λ live. copy_idle p.vars p.flag s.sets c.requires.known live v
+    c.requires.of_v (omega (arith, c.max.ensures, c.if-max-lt-SPILL.true)))
 
 pub drop_when-first-requires-clause-there : goal.drop_when-first-requires-clause-there
 drop_when-first-requires-clause-there c = has_among c.args.p.now.vars c.args.v c.args.w.now.store.now.sets c.requires.of_v c.requires.known

@@ -1,15 +1,32 @@
 use Rattle.std.proofs.Common.{List, ℕ, ◌≡◌, length, ap, sym, subst, refl, ◌∙◌, option_and_then}
+use Rattle.std.specs.declared.option.Option.{Option}
 use Rattle.un_base.specs.declared.ids.VarId.{VarId}
 use Rattle.un_domains.specs.Sets.{Sets}
 use Rattle.un_prop.specs.Rounds.{HasVars}
 use Rattle.un_prop.specs.Failing.{first_cut}
 use Rattle.un_prop.specs.Going.{Stepped}
-use Rattle.un_prop.specs.GoingLaws.{stepped_chain}
-use Rattle.un_prec.specs.Links.{LinkVars, at_cut, later_test, earlier_test, apart_test}
+use Rattle.un_prop.specs.FailLaws.{first_all}
+use Rattle.un_prop.specs.GoingLaws.{stepped_chain, stepped_same}
+use Rattle.un_prec.specs.Links.{LinkVars, at_cut, both_sure, later_test, earlier_test, apart_test, link_steps}
+use Rattle.un_prec.specs.LinkLaws.{apart_unsure, at_same, not_sure}
 use Rattle.un_prec.proofs.rules.keep_link.Goals as goal
 
 known_at : (vs us : List VarId) (s t : Sets) → us ≡ vs → length t ≡ length s → HasVars vs s → HasVars us t
 known_at vs us s t e long k = subst (λ (ws : List VarId). HasVars ws t) (sym e) (λ i d lt. rw long (k i d lt))
+
+pub returns-then-not-are_sure-clause-step : goal.returns-then-not-are_sure-clause-step
+returns-then-not-are_sure-clause-step c =
+    let l = c.args.link in
+    let vs = c.args.w.now.vars.now in
+    let s = c.args.w.now.store.now in
+    let off = sym c.if-not-are_sure.ensures in
+    let k = c.requires.known in
+    stepped_same vs (link_steps vs l) s c.args.before (λ live.
+    ap (λ (o : Option Sets). option_and_then (at_cut (earlier_test l) l.from) (option_and_then (at_cut (later_test l) l.to) o))
+    (first_all (apart_test l) vs s.sets k live (λ y. apart_unsure l s.sets y off))
+    ∙ (ap (option_and_then (at_cut (earlier_test l) l.from)) (at_same vs (later_test l) l.to s.sets c.requires.vars.of_to k live
+    (λ y. not_sure (both_sure l s.sets) _ off))
+    ∙ at_same vs (earlier_test l) l.from s.sets c.requires.vars.of_from k live (λ y. not_sure (both_sure l s.sets) _ off)))
 
 pub later-second-requires-clause-vars : goal.later-second-requires-clause-vars
 later-second-requires-clause-vars c = subst (λ (us : List VarId). LinkVars us c.args.link)

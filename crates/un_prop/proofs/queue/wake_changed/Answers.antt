@@ -39,13 +39,13 @@ loop-v-preserved c =
             long = length-set c.loop-v.sizes.words at _ ∙ inv.long;
             marked = w.set.ensures.marked ∙ inv.marked;
             flags = w.wake.ensures.flags ∙ inv.flags;
-            noted = noted_then vars c.args.store.now.sets c.loop-v.sizes.words k at c.size-size.result c.loop-v-test.true is within
-                c.size-size.ensures inv.noted;
-            others = λ u other. get_or-set_other c.loop-v.sizes.words at u c.size-size.result 0 (other k (record { 0 = 0 })
+            noted = noted_then vars c.args.store.now.sets c.loop-v.sizes.words k at c.count-size.result c.loop-v-test.true is within
+                c.count-size.ensures inv.noted;
+            others = λ u other. get_or-set_other c.loop-v.sizes.words at u c.count-size.result 0 (other k (record { 0 = 0 })
                 c.loop-v-test.true)
                 ∙ inv.others u other;
             woken = woken_then c.args.table.now c.args.sizes.now.words c.loop-v.sizes.words c.loop-v.waiting w.wake.new.waiting at
-                c.size-size.result
+                c.count-size.result
                 all w.wake.ensures.grows inv.woken;
             grows = λ i h. w.wake.ensures.grows i (inv.grows i h);
           }))
@@ -53,8 +53,8 @@ loop-v-preserved c =
         long = inv.long;
         marked = inv.marked;
         flags = inv.flags;
-        noted = noted_else vars c.args.store.now.sets c.loop-v.sizes.words k at c.size-size.result c.loop-v-test.true is within
-            c.size-size.ensures inv.noted (w.if-size-get.false ∙ c.get.ensures);
+        noted = noted_else vars c.args.store.now.sets c.loop-v.sizes.words k at c.count-size.result c.loop-v-test.true is within
+            c.count-size.ensures inv.noted (w.if-size-get.false ∙ c.get.ensures);
         others = inv.others;
         woken = inv.woken;
         grows = inv.grows;
