@@ -80,7 +80,25 @@ fn avoids(fixed: &[u32], a: &Temp, c: &ClobberCall) -> bool
     }
 }
 
-/// Whether a variable may be a register outside a mask.
+/// Whether a variable may be a register outside a mask, by a look at each.
+fn any_survives(w: &Window<'_>, mask: u64, a: &Temp) -> bool
+    requires there { a.now.reg.0 < length w.now.store.now.sets }
+    requires live { NoneEmpty w.now.store.now.sets }
+    ensures { result ≡ may_survive mask a.now w.now.store.now.sets }
+{
+    let low = u64::from(w.min(a.reg));
+    let high = u64::from(w.max(a.reg)) + 1;
+    for r in low..high {
+        if w.has(a.reg, r as u32) {
+            if !is_in_mask(mask, r as u32) {
+                return true;
+            }
+        }
+    }
+    false
+}
+
+/// Whether a variable may be a register outside a mask: mostly the greatest is, as a slot.
 fn may_survive(w: &Window<'_>, mask: u64, a: &Temp) -> bool
     requires there { a.now.reg.0 < length w.now.store.now.sets }
     requires live { NoneEmpty w.now.store.now.sets }
@@ -90,16 +108,7 @@ fn may_survive(w: &Window<'_>, mask: u64, a: &Temp) -> bool
     if !is_in_mask(mask, most) {
         return true;
     }
-    let low = u64::from(w.min(a.reg));
-    let high = u64::from(most) + 1;
-    for r in low..high {
-        if w.has(a.reg, r as u32) {
-            if !is_in_mask(mask, r as u32) {
-                return true;
-            }
-        }
-    }
-    false
+    any_survives(w, mask, a)
 }
 
 /// Whether a variable may be a register of a mask.

@@ -4,6 +4,7 @@ pub mod Gathering
 pub mod Greatest
 pub mod Knowing
 pub mod Marking
+pub mod Marks
 pub mod Pairing
 pub mod Saving
 pub mod Seeing

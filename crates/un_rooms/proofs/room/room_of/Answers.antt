@@ -1,17 +1,11 @@
-use Rattle.std.proofs.Common.{ℕ, zero, suc, ◌≡◌, ◌∙◌, ◌+◌, ◌<◌, Bool, cond, List, ◌∷◌, filter, refl, ap, arith}
+use Rattle.std.proofs.Common.{ℕ, ◌∙◌, ◌+◌, Bool, List, filter, ap}
 use Rattle.std.specs.List.{list_any, range_with_len}
 use Rattle.un_isa.specs.declared.reg.TheConstants.{FIRST_SLOT, SLOTS}
 use Rattle.un_rooms.specs.Marked.{is_marked}
 use Rattle.un_sites.specs.Pressures.{may_have, room_of}
 use Rattle.un_sites.specs.Sites.{definers_in}
+use Rattle.un_rooms.proofs.Marks.{filter_range}
 use Rattle.un_rooms.proofs.room.room_of.Goals as goal
-
--- tests that agree on a range
-filter_range : (p q : ℕ → Bool) (a n : ℕ) → ((r : ℕ) → r < a + n → p r ≡ q r) → filter p (range_with_len a n) ≡ filter q (range_with_len a n)
-filter_range p q a zero same = refl
-filter_range p q a (suc n) same =
-    ap (λ (b : Bool). cond b (a ∷ filter p (range_with_len (a + 1) n)) (filter p (range_with_len (a + 1) n))) (same a (omega arith))
-    ∙ ap (λ (rs : List ℕ). cond (q a) (a ∷ rs) rs) (filter_range p q (a + 1) n (λ r lt. same r (omega (arith, lt))))
 
 pub returns : goal.returns
 unfolding room_of
