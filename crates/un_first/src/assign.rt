@@ -124,6 +124,9 @@ fn value_crosses(block: &Block, v: u32) -> bool {
 }
 
 fn crosses_in(block: &Block, name: u32) -> bool {
+    if !block.has_call() {
+        return false;
+    }
     for t in 0..block.facts.temporaries.len() {
         let x = block.temporary(t);
         if x.key == name && x.value == t && value_crosses(block, t) {
@@ -284,7 +287,7 @@ fn assign_key(
 }
 
 /// The names by falling weight per group.
-fn names_by_weight(alloc: Global, facts: &Facts) -> Result<Vec<(u64, u32)>, AllocError> {
+pub(crate) fn names_by_weight(alloc: Global, facts: &Facts) -> Result<Vec<(u64, u32)>, AllocError> {
     let mut list = Vec::new(alloc);
     for n in 0..facts.names {
         let groups = free_groups(facts, n).saturating_add(1);
@@ -317,11 +320,15 @@ fn assign_all(facts: &Facts, start: Start, names: &[(u64, u32)], places: &mut Pl
     true
 }
 
-/// One place for each key, names by falling weight per group, then the saved values; None where there are too few.
-pub fn assign(alloc: Global, facts: &Facts, start: Start) -> Result<Option<Places>, AllocError> {
-    let names = names_by_weight(alloc, facts)?;
+/// One place for each key, these names first and in their order, then the saved values; None where there are too few.
+pub(crate) fn assign(
+    alloc: Global,
+    facts: &Facts,
+    start: Start,
+    names: &[(u64, u32)],
+) -> Result<Option<Places>, AllocError> {
     let mut places = fixed_places(alloc, facts)?;
-    if assign_all(facts, start, names.as_slice(), &mut places) {
+    if assign_all(facts, start, names, &mut places) {
         Ok(Some(places))
     } else {
         Ok(None)

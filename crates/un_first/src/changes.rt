@@ -18,11 +18,20 @@ pub struct Change {
     pub place: u32,
 }
 
+/// Takes those of these places that are slots out of a set.
+fn remove_slots(set: &mut RegisterSet, places: &[u32]) {
+    for r in places {
+        if *r != NONE && *r >= FIRST_SLOT {
+            set.remove(*r);
+        }
+    }
+}
+
 /// The slots that no group uses.
 pub fn spare_slots(facts: &Facts, places: &Places) -> RegisterSet {
     let mut set = facts.machine.slots;
     for g in 0..facts.groups {
-        set = set.minus(taken(places, g));
+        remove_slots(&mut set, places.row(g));
     }
     set
 }
@@ -91,9 +100,10 @@ fn is_sound_in(facts: &Facts, places: &Places, g: u32) -> bool {
     true
 }
 
-fn is_sound(facts: &Facts, places: &Places) -> bool {
+/// The same of all groups, where it is so of the old places: groups that have the old ones are not looked at.
+fn stays_sound(facts: &Facts, old: &Places, new: &Places) -> bool {
     for g in 0..facts.groups {
-        if !is_sound_in(facts, places, g) {
+        if old.row(g) != new.row(g) && !is_sound_in(facts, new, g) {
             return false;
         }
     }
@@ -224,5 +234,5 @@ pub(crate) fn change_place(
             }
         }
     }
-    is_sound(facts, new)
+    stays_sound(facts, old, new)
 }
