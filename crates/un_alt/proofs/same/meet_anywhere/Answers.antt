@@ -1,8 +1,8 @@
 use Rattle.std.proofs.Common.{◌<◌, ◌∙◌, sym, arith, inl, inr}
 use Rattle.un_domains.specs.Sets.{set_at, has, greatest}
 use Rattle.un_prop.specs.SomewhereLaws.{any_none, any_whole, any_has, none_next}
-use Rattle.un_alt.proofs.same.meet.Goals as goal
-use Rattle.un_alt.proofs.same.meet.Goals.{then-has+else-has-2, else-has}
+use Rattle.un_alt.proofs.same.meet_anywhere.Goals as goal
+use Rattle.un_alt.proofs.same.meet_anywhere.Goals.{then-has+else-has-2, else-has}
 
 pub loop-y-init : goal.loop-y-init
 loop-y-init c =
