@@ -31,8 +31,8 @@ pub struct Same {
     ghost among: { SameVars vars choice regs to },
 }
 
-/// Whether some value is one of both variables.
-fn meet(w: &Window<'_>, v: VarId, to: VarId) -> bool
+/// Whether some value is one of both variables, looked for from the least one on.
+fn meet_anywhere(w: &Window<'_>, v: VarId, to: VarId) -> bool
     requires there { v.0 < length w.now.store.now.sets }
     requires to { to.0 < length w.now.store.now.sets }
     requires live { NoneEmpty w.now.store.now.sets }
@@ -48,6 +48,23 @@ fn meet(w: &Window<'_>, v: VarId, to: VarId) -> bool
         }
     }
     false
+}
+
+/// The same. The least value of the other variable is tried first: mostly it is one of both, or the only one there.
+fn meet(w: &Window<'_>, v: VarId, to: VarId) -> bool
+    requires there { v.0 < length w.now.store.now.sets }
+    requires to { to.0 < length w.now.store.now.sets }
+    requires live { NoneEmpty w.now.store.now.sets }
+    ensures { result ≡ list_any (has (set_at w.now.store.now.sets to.0)) (set_at w.now.store.now.sets v.0) }
+{
+    let first = w.min(to);
+    if w.has(v, first) {
+        return true;
+    }
+    if w.is_single(to) {
+        return false;
+    }
+    meet_anywhere(w, v, to)
 }
 
 impl Predicate for Same {

@@ -37,7 +37,8 @@ pub trait Choice: Predicate {
         ensures { result ≡ can self.now w.now.store.now.sets i };
 }
 
-/// Where the user is sure, takes place `i` from a choice, unless what stands there can be chosen.
+/// Where the user is sure, takes place `i` from a choice, unless what stands there can be chosen. A place that is gone already is not
+/// looked at.
 fn keep_place<C: Choice>(
     c: &C,
     w: &mut Window<'_>,
@@ -56,6 +57,9 @@ fn keep_place<C: Choice>(
     ensures vars { w.new.vars ≡ w.old.vars }
 {
     if before == Pruned::Failed {
+        return before;
+    }
+    if !w.has(choice, i) {
         return before;
     }
     if !is_sure(w, on) {

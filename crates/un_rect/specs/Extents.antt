@@ -61,6 +61,11 @@ AreNoted A of temps s xs = (i : ℕ) (a : Temp) (x : A) → i < length temps →
 abbrev pub AreExtents : List Temp → Sets → List Extent → Type 0
 AreExtents temps s extents = AreNoted Extent extent_of temps s extents
 
+-- so far: of those before place n
+abbrev pub AreExtentsBefore : ℕ → List Temp → Sets → List Extent → Type 0
+AreExtentsBefore n temps s extents = (i : ℕ) (a : Temp) (x : Extent) → i < n → i < length temps → i < length extents
+    → slice_index_or extents i x ≡ extent_of (slice_index_or temps i a) s
+
 abbrev pub AreLeft : List Temp → Sets → List Left → Type 0
 AreLeft temps s left = AreNoted Left left_of temps s left
 

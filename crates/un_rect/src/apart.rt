@@ -6,7 +6,7 @@ ghost use Rattle.un_prop.specs.LastLaws.{Ascend};
 ghost use Rattle.un_rect.specs.Apart.{pair_holds, ApartVars};
 
 use crate::checks::{are_apart, check_all};
-use crate::extents::{Extent, FEW, MANY, MOST, SOME, no_extent, note};
+use crate::extents::{Extent, FEW, MANY, MOST, SOME, no_extent};
 use crate::left::{Left, nothing_left};
 use crate::{clashes, orders};
 use un_base::ids::VarId;
@@ -89,7 +89,6 @@ impl Apart {
         ensures same_reference { w.new.store.ghost_name ≡ w.old.store.ghost_name }
     {
         let temps = self.temps.as_slice();
-        note(w, temps, extents);
         let first = clashes::keep_all(w, Pruned::Same, temps, extents);
         let second = orders::keep_all(w, first, temps, extents);
         check_all(w, second, temps, left, scratch.fixed.as_mut_slice())

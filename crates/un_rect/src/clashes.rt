@@ -1,6 +1,6 @@
 //! Registers that a sure temporary takes from those that it surely overlaps.
 
-ghost use Rattle.std.specs.Prelude.{◌≡◌, ◌≢◌, ◌<◌, ◌≤◌, ℕ, All, length, nat_eq, nat_lt, slice_index_or, true, Some};
+ghost use Rattle.std.specs.Prelude.{◌≡◌, ◌≢◌, ◌+◌, ◌<◌, ◌≤◌, ℕ, All, length, nat_eq, nat_lt, slice_index_or, true, Some};
 ghost use Rattle.un_domains.specs.Sets.{NoneEmpty, least, set_at};
 ghost use Rattle.un_prop.specs.Going.{Stepped};
 ghost use Rattle.un_prop.specs.Rounds.{HasVars};
@@ -9,10 +9,10 @@ ghost use Rattle.un_prop.specs.declared.propagator.Pruned.TheVariants.{Same, Fai
 ghost use Rattle.un_rect.specs.Spans.{last_sure_use, least_end, UserVars, TempVars};
 ghost use Rattle.un_rect.specs.Apart.{sure_overlap, clash_cut, clash_pair, clashes_cut};
 ghost use Rattle.un_rect.specs.Checks.{IsClash};
-ghost use Rattle.un_rect.specs.Extents.{AreExtents, extent_of};
+ghost use Rattle.un_rect.specs.Extents.{AreExtents, AreExtentsBefore, extent_of};
 ghost use Rattle.un_rect.specs.Pairs.{each_before};
 
-use crate::extents::{Extent, may_clash, note_again};
+use crate::extents::{Extent, before_again, may_clash, note_next};
 use crate::spans::{is_on, is_sure_user};
 use un_domains::window::Window;
 use un_prop::act::{Temp, UserOf};
@@ -270,7 +270,7 @@ fn keep_row(w: &mut Window<'_>, temps: &[Temp], extents: &[Extent], j: usize) ->
     did
 }
 
-/// The same, after other rows. Where it changes something, all is noted again.
+/// The same, after other rows. Those up to place `j` are noted, again where it changes something: the later ones are not looked at yet.
 fn keep_next(
     w: &mut Window<'_>,
     before: Pruned,
@@ -282,22 +282,24 @@ fn keep_next(
     requires of_temps { All (TempVars w.old.vars.now) temps.now }
     requires known { HasVars w.old.vars.now w.old.store.now.sets }
     requires live { before ≢ Failed → NoneEmpty w.old.store.now.sets }
-    requires are { before ≢ Failed → AreExtents temps.now w.old.store.now.sets extents.old }
+    requires are { before ≢ Failed → AreExtentsBefore j temps.now w.old.store.now.sets extents.old }
     ensures step { (b : Temp) → Stepped w.old.vars.now (each_before clash_pair temps.now (slice_index_or temps.now j b) j)
         w.old.store.now w.new.store.now before result }
-    ensures are { result ≢ Failed → AreExtents temps.now w.new.store.now.sets extents.new }
+    ensures are { result ≢ Failed → AreExtentsBefore (j + 1) temps.now w.new.store.now.sets extents.new }
     ensures same_reference { w.new.store.ghost_name ≡ w.old.store.ghost_name }
     ensures vars { w.new.vars ≡ w.old.vars }
 {
     if before == Pruned::Failed {
         return before;
     }
-    let did = keep_row(w, temps, extents, j);
-    note_again(w, did, temps, extents);
+    note_next(w, temps, extents, j);
+    let end = extents.len().min(j + 1);
+    let did = keep_row(w, temps, &extents[..end], j);
+    before_again(w, did, temps, extents, j + 1);
     joined(before, did)
 }
 
-/// Of each two sure temporaries that overlap, takes the one register left of one from the other. Their extents were noted.
+/// Of each two sure temporaries that overlap, takes the one register left of one from the other. Notes their extents.
 pub(crate) fn keep_all(
     w: &mut Window<'_>,
     before: Pruned,
@@ -307,7 +309,6 @@ pub(crate) fn keep_all(
     requires of_temps { All (TempVars w.old.vars.now) temps.now }
     requires known { HasVars w.old.vars.now w.old.store.now.sets }
     requires live { before ≢ Failed → NoneEmpty w.old.store.now.sets }
-    requires are { before ≢ Failed → AreExtents temps.now w.old.store.now.sets extents.old }
     ensures step { Stepped w.old.vars.now (clashes_cut temps.now) w.old.store.now w.new.store.now before result }
     ensures are { result ≢ Failed → AreExtents temps.now w.new.store.now.sets extents.new }
     ensures same_reference { w.new.store.ghost_name ≡ w.old.store.ghost_name }

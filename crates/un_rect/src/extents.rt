@@ -4,7 +4,8 @@ ghost use Rattle.std.specs.Prelude.{◌≡◌, ◌≢◌, All};
 ghost use Rattle.un_domains.specs.Sets.{NoneEmpty};
 ghost use Rattle.un_prop.specs.Rounds.{HasVars};
 ghost use Rattle.un_prop.specs.declared.propagator.Pruned.TheVariants.{Same, Failed};
-ghost use Rattle.un_rect.specs.Extents.{extent_of, unsure_extent, may_clash, is_settled, may_lead, may_order, AreExtents};
+ghost use Rattle.un_rect.specs.Extents.{extent_of, unsure_extent, may_clash, is_settled, may_lead, may_order, AreExtents, AreExtentsBefore};
+ghost use Rattle.std.specs.Prelude.{◌+◌, ◌<◌, length};
 ghost use Rattle.un_rect.specs.Spans.{TempVars};
 
 use crate::spans::{is_on, last_reading, least_end};
@@ -83,7 +84,7 @@ fn extent_of(w: &Window<'_>, a: &Temp) -> Extent
 }
 
 /// Notes what the store says of each temporary for which there is room.
-pub(crate) fn note(w: &Window<'_>, temps: &[Temp], extents: &mut [Extent])
+fn note(w: &Window<'_>, temps: &[Temp], extents: &mut [Extent])
     requires of_temps { All (TempVars w.now.vars.now) temps.now }
     requires known { HasVars w.now.vars.now w.now.store.now.sets }
     requires live { NoneEmpty w.now.store.now.sets }
@@ -104,6 +105,51 @@ pub(crate) fn note_again(w: &Window<'_>, did: Pruned, temps: &[Temp], extents: &
 {
     if did == Pruned::Tighter {
         note(w, temps, extents);
+    }
+}
+
+/// Notes what the store says of the temporary at place `j`, if there is room.
+pub(crate) fn note_next(w: &Window<'_>, temps: &[Temp], extents: &mut [Extent], j: usize)
+    requires there { j < length temps.now }
+    requires of_temps { All (TempVars w.now.vars.now) temps.now }
+    requires known { HasVars w.now.vars.now w.now.store.now.sets }
+    requires live { NoneEmpty w.now.store.now.sets }
+    requires are { AreExtentsBefore j temps.now w.now.store.now.sets extents.old }
+    ensures { AreExtentsBefore (j + 1) temps.now w.now.store.now.sets extents.new }
+{
+    if j < extents.len() {
+        extents[j] = extent_of(w, &temps[j]);
+    }
+}
+
+/// Notes what the store says of each temporary before place `n` for which there is room.
+fn note_before(w: &Window<'_>, temps: &[Temp], extents: &mut [Extent], n: usize)
+    requires of_temps { All (TempVars w.now.vars.now) temps.now }
+    requires known { HasVars w.now.vars.now w.now.store.now.sets }
+    requires live { NoneEmpty w.now.store.now.sets }
+    ensures { AreExtentsBefore n temps.now w.now.store.now.sets extents.new }
+{
+    for i in 0..n.min(temps.len()).min(extents.len()) {
+        extents[i] = extent_of(w, &temps[i]);
+    }
+}
+
+/// Notes those before place `n` again where a step since the last note changed something.
+pub(crate) fn before_again(
+    w: &Window<'_>,
+    did: Pruned,
+    temps: &[Temp],
+    extents: &mut [Extent],
+    n: usize,
+)
+    requires of_temps { All (TempVars w.now.vars.now) temps.now }
+    requires known { HasVars w.now.vars.now w.now.store.now.sets }
+    requires live { did ≢ Failed → NoneEmpty w.now.store.now.sets }
+    requires are { did ≡ Same → AreExtentsBefore n temps.now w.now.store.now.sets extents.old }
+    ensures { did ≢ Failed → AreExtentsBefore n temps.now w.now.store.now.sets extents.new }
+{
+    if did == Pruned::Tighter {
+        note_before(w, temps, extents, n);
     }
 }
 

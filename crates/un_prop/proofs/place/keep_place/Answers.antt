@@ -1,6 +1,7 @@
-use Rattle.std.proofs.Common.{ℕ, List, Bool, ◌≡◌, ◌≢◌, ◌∙◌, not, nat_eq, refl, sym, ap, subst}
+use Rattle.std.proofs.Common.{ℕ, List, Bool, true, false, ◌≡◌, ◌≢◌, ◌∙◌, ◌||◌, not, nat_eq, refl, sym, ap, subst, arith}
+use Rattle.std.proofs.lemmas.Bool.Decides.{nat_tests}
 use Rattle.un_base.specs.declared.ids.VarId.{VarId}
-use Rattle.un_domains.specs.Sets.{Sets, cut_by}
+use Rattle.un_domains.specs.Sets.{Sets, cut_by, has, set_at}
 use Rattle.un_prop.specs.Acts.{act_vars}
 use Rattle.un_prop.specs.AmongLaws.{has_among}
 use Rattle.un_prop.specs.Looks.{sure}
@@ -11,6 +12,28 @@ use Rattle.un_prop.specs.Places.{place_test, place_cut}
 use Rattle.un_prop.specs.PlaceLaws.{place_unsure, place_can, place_goes}
 use Rattle.un_prop.specs.declared.propagator.Pruned.TheVariants.{Failed}
 use Rattle.un_prop.proofs.place.keep_place.Goals as goal
+
+pub has-requires : goal.has-requires
+has-requires g c = has_among (g.C.Predicate.scope c.args.c.now) c.args.choice c.args.w.now.store.now.sets c.requires.of_choice
+    c.requires.known
+
+-- a value that is there is none that is not
+other_one : (xs : List ℕ) (y z : ℕ) → has xs y ≡ false → has xs z ≡ true → (b : Bool) → nat_eq z y ≡ b → not b ≡ true
+other_one xs y z gone there false e = refl
+other_one xs y z gone there true e = absurd (let is : z ≡ y = grind (arith, nat_tests, e) in
+    let bad : true ≡ false = sym there ∙ (ap (has xs) is ∙ gone) in cc bad)
+
+pub returns-then-not-has-clause-step : goal.returns-then-not-has-clause-step
+returns-then-not-has-clause-step g c =
+    let s = c.args.w.now.store.now in
+    let can = g.C.Choice.can c.args.c.now in
+    let v = c.args.choice in
+    let i = c.args.i in
+    let within = has_among (g.C.Predicate.scope c.args.c.now) v s.sets c.requires.of_choice c.requires.known in
+    stepped_same c.args.w.now.vars.now (place_cut c.args.on v can i) s c.args.before
+    (λ live. cut_all (place_test c.args.on can i s.sets) v.0 s.sets within live
+    (λ y there. ap (λ (b : Bool). b || (not (sure c.args.on s.sets) || can s.sets i))
+    (other_one (set_at s.sets v.0) i y (sym c.has.ensures ∙ c.if-not-has.true) there (nat_eq y i) refl)))
 
 pub is_sure-requires : goal.is_sure-requires
 is_sure-requires g c = known_of (g.C.Predicate.scope c.args.c.now) (act_vars c.args.on) c.args.w.now.store.now.sets c.requires.of_on

@@ -14,10 +14,6 @@ use Rattle.un_rect.proofs.apart.Apart.keep_noted.Goals as goal
 carried : (vs us : List VarId) (temps xs : List Temp) → us ≡ vs → xs ≡ temps → ApartVars vs temps → ApartVars us xs
 carried vs us temps xs e h all = subst (λ (ws : List VarId). ApartVars ws xs) (sym e) (subst (ApartVars vs) (sym h) all)
 
-pub note-requires-clause-of_temps : goal.note-requires-clause-of_temps
-note-requires-clause-of_temps c = let p = c.args.self.now in
-    carried p.vars c.args.w.now.vars.now p.temps c.as_slice-temps.result.now c.requires.vars c.as_slice-temps.ensures p.among
-
 pub keep_all-first-requires-clause-of_temps : goal.keep_all-first-requires-clause-of_temps
 keep_all-first-requires-clause-of_temps c = let p = c.args.self.now in
     carried p.vars c.args.w.now.vars.now p.temps c.as_slice-temps.result.now c.requires.vars c.as_slice-temps.ensures p.among
