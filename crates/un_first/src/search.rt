@@ -84,6 +84,15 @@ pub fn cycles_of(facts: &Facts, plan: &Plan) -> u64 {
     sum
 }
 
+/// The slots that trials of a plan may use: none where it has no frame.
+fn slots_of(facts: &Facts, places: &Places, frame: bool) -> RegisterSet {
+    if frame {
+        spare_slots(facts, places)
+    } else {
+        EMPTY
+    }
+}
+
 fn seeds(alloc: Global, count: usize) -> Result<Vec<Seed>, AllocError> {
     let mut list = Vec::new(alloc);
     for _ in 0..count {
@@ -318,7 +327,7 @@ impl<'a> Search<'a> {
         let scene = Scene {
             places: &plan.places,
             frame: plan.frame,
-            spare_slots: spare_slots(facts, &plan.places),
+            spare_slots: slots_of(facts, &plan.places, plan.frame),
         };
         let mut cost = Cost {
             cycles: 0,
