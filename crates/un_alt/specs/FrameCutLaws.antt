@@ -1,7 +1,9 @@
 -- Laws of what Frame lets a store keep.
 use Rattle.std.proofs.Common.{ℕ, ◌≡◌, ◌≢◌, ◌<◌, ◌≤◌, ◌+◌, ◌-◌, ◌^◌, ◌∙◌, Bool, true, false, cond, not, ◌&&◌, ◌||◌, List, [], ◌∷◌, length}
 use Rattle.std.proofs.Common.{get_or, All, nat_eq}
-use Rattle.std.proofs.Common.{nat_le, nat_lt, option_and_then, Some, refl, sym, ap, subst, arith}
+use Rattle.std.proofs.Common.{nat_le, nat_lt, option_and_then, None, Some, refl, sym, ap, subst, arith}
+use Rattle.std.specs.declared.option.Option.{Option}
+use Rattle.std.specs.Option.{ForSome}
 use Rattle.std.specs.List.{AllByRecursion, list_any, list_all}
 use Rattle.std.proofs.lemmas.Bool.Decides.{nat_tests}
 use Rattle.std.proofs.lemmas.List.Elements.{recursion_from_All}
@@ -13,7 +15,7 @@ use Rattle.un_domains.specs.OrderLaws.{least_below, greatest_below, has_below}
 use Rattle.un_isa.specs.declared.reg.TheConstants.{FIRST_SLOT}
 use Rattle.un_prop.specs.Rounds.{HasVars, round}
 use Rattle.un_prop.specs.Lawful.{Lawful, LawfulTest}
-use Rattle.un_prop.specs.Steps.{lawful_then, lawful_each}
+use Rattle.un_prop.specs.Steps.{lawful_then, lawful_each, lawful_some}
 use Rattle.un_prop.specs.EachLaws.{each_kept}
 use Rattle.un_prop.specs.ChainLaws.{then_kept, known_in}
 use Rattle.un_prop.specs.ChoiceLaws.{map_all}
@@ -32,10 +34,12 @@ use Rattle.un_alt.specs.declared.frame.FrameLeave.{FrameLeave}
 use Rattle.un_ir.specs.declared.extended.TheConstants.{SPILL, RELOAD}
 use Rattle.un_alt.specs.declared.order.Order.{Order}
 use Rattle.un_alt.specs.Frame.{is_access, is_slot, uses_frame, is_on, all_on, none_on, counts, is_after, is_until, is_left, in_order}
+use Rattle.un_alt.specs.Frame.{enter_on, enter_off, all_entered}
 use Rattle.un_alt.specs.Frame.{frame_holds, FrameOpVars, FrameUseVars, FrameLeaveVars, FrameVars}
 use Rattle.un_alt.specs.FrameCuts.{is_within, sure_use, flag_cut, is_unused, touch_cut, slot_cut, op_cut, leave_op_cut, order_holds}
 use Rattle.un_alt.specs.FrameCuts.{entry_order, copy_order, call_order, is_ordered, late_test, early_test, order_cut, entry_cut, copy_cut}
 use Rattle.un_alt.specs.FrameCuts.{call_cut, left_cut, use_steps, op_steps, order_steps, frame_steps, OrderVars}
+use Rattle.un_alt.specs.FrameCuts.{enter_cut, entry_steps}
 
 -- Lists
 
@@ -271,7 +275,7 @@ module _ (vs : List VarId) where
 -- Frame
 
 -- what holds of an assignment that keeps the frame
-record Keeps (flag : VarId) (touch ins : List VarId) (enter : FrameOp) (entry : List FrameUse) (leaves : List FrameLeave) (x : List ℕ)
+record Keeps (flag : VarId) (touch ins : List VarId) (enter : Option FrameOp) (entry : List FrameUse) (leaves : List FrameLeave) (x : List ℕ)
     : Type 0 where
   used : uses_frame touch ins x ≡ true → get_or x flag.0 0 ≡ 1
   unused : get_or x flag.0 0 ≢ 1 → not (uses_frame touch ins x) ≡ true
@@ -279,17 +283,17 @@ record Keeps (flag : VarId) (touch ins : List VarId) (enter : FrameOp) (entry : 
   off : get_or x flag.0 0 ≡ 0 → none_on enter leaves x ≡ true
   order : get_or x flag.0 0 ≡ 1 → in_order enter entry leaves x ≡ true
 
-keeps_of : (flag : VarId) (touch ins : List VarId) (enter : FrameOp) (entry : List FrameUse) (leaves : List FrameLeave) (x : List ℕ)
-    → frame_holds flag touch ins enter entry leaves x ≡ true → Keeps flag touch ins enter entry leaves x
-keeps_of flag touch ins enter entry leaves x holds = by (nat_eq (get_or x flag.0 0) 1) refl holds
+keeps_of : (whole : Bool) (flag : VarId) (touch ins : List VarId) (enter : Option FrameOp) (entry : List FrameUse) (leaves : List FrameLeave) (x : List ℕ)
+    → frame_holds whole flag touch ins enter entry leaves x ≡ true → Keeps flag touch ins enter entry leaves x
+keeps_of whole flag touch ins enter entry leaves x holds = by (nat_eq (get_or x flag.0 0) 1) refl holds
   where
     by : (b : Bool) → nat_eq (get_or x flag.0 0) 1 ≡ b
-        → cond b (uses_frame touch ins x && (all_on enter leaves x && in_order enter entry leaves x))
+        → cond b ((not whole || uses_frame touch ins x) && (all_on enter leaves x && in_order enter entry leaves x))
         (not (uses_frame touch ins x) && (not (nat_eq (get_or x flag.0 0) 0) || none_on enter leaves x)) ≡ true
         → Keeps flag touch ins enter entry leaves x
     by true is h =
         let one : get_or x flag.0 0 ≡ 1 = grind (arith, nat_tests, is) in
-        let two = firsts (uses_frame touch ins x) (all_on enter leaves x && in_order enter entry leaves x) h in
+        let two = firsts (not whole || uses_frame touch ins x) (all_on enter leaves x && in_order enter entry leaves x) h in
         let more = firsts (all_on enter leaves x) (in_order enter entry leaves x) two.1 in
         record {
           used = λ e. one;
@@ -309,7 +313,7 @@ keeps_of flag touch ins enter entry leaves x holds = by (nat_eq (get_or x flag.0
           order = λ e. absurd (other e);
         }
 
-module _ (vs : List VarId) (flag : VarId) (touch ins : List VarId) (enter : FrameOp) (entry : List FrameUse) (leaves : List FrameLeave)
+module _ (vs : List VarId) (flag : VarId) (touch ins : List VarId) (enter : Option FrameOp) (entry : List FrameUse) (leaves : List FrameLeave)
     (h : FrameVars vs flag touch ins enter entry leaves) where
   in_touch : AllByRecursion (λ v. among vs v ≡ true) touch
   in_touch = recursion_from_All _ _ h.of_touch
@@ -323,8 +327,8 @@ module _ (vs : List VarId) (flag : VarId) (touch ins : List VarId) (enter : Fram
   in_leaves : AllByRecursion (FrameLeaveVars vs) leaves
   in_leaves = recursion_from_All _ _ h.of_leaves
 
-  of_entry_order : (u : FrameUse) → FrameUseVars vs u → OrderVars vs (entry_order enter u)
-  of_entry_order u k = record { of_from = h.of_enter.of_at; of_to = k.of_at; of_instr = k.of_instr }
+  of_entry_order : (e : FrameOp) → FrameOpVars vs e → (u : FrameUse) → FrameUseVars vs u → OrderVars vs (entry_order e u)
+  of_entry_order e in_e u k = record { of_from = in_e.of_at; of_to = k.of_at; of_instr = k.of_instr }
 
   of_copy_order : (leave : FrameOp) → FrameOpVars vs leave → (u : FrameUse) → FrameUseVars vs u → OrderVars vs (copy_order leave u)
   of_copy_order leave l u k = record { of_from = k.of_at; of_to = l.of_at; of_instr = k.of_instr }
@@ -356,14 +360,19 @@ module _ (vs : List VarId) (flag : VarId) (touch ins : List VarId) (enter : Fram
   use_lawful = lawful_then vs (λ s. option_and_then (round (touch_cut flag) touch) (flag_cut flag touch ins s)) (round (slot_cut flag) ins)
       (lawful_then vs (flag_cut flag touch ins) (round (touch_cut flag) touch) flag_lawful touches_lawful) slots_lawful
 
+  enter_lawful : (e : Option FrameOp) → ForSome e (FrameOpVars vs) → Lawful vs (enter_cut flag e)
+  enter_lawful None in_e = lawful_some vs
+  enter_lawful (Some e) in_e = op_lawful vs flag h.of_flag e (in_e e refl)
+
   ops_lawful : Lawful vs (op_steps flag enter leaves)
-  ops_lawful = lawful_then vs (op_cut flag enter) (round (leave_op_cut flag) leaves) (op_lawful vs flag h.of_flag enter h.of_enter)
+  ops_lawful = lawful_then vs (enter_cut flag enter) (round (leave_op_cut flag) leaves) (enter_lawful enter h.of_enter)
       (lawful_each vs (leave_op_cut flag) leaves (map_all (FrameLeaveVars vs) (λ l. Lawful vs (leave_op_cut flag l))
       (λ l k. op_lawful vs flag h.of_flag l.leave k.of_leave) leaves in_leaves))
 
-  entry_lawful : Lawful vs (round (entry_cut flag enter) entry)
-  entry_lawful = lawful_each vs (entry_cut flag enter) entry (map_all (FrameUseVars vs) (λ u. Lawful vs (entry_cut flag enter u))
-      (λ u k. order_lawful vs flag h.of_flag (entry_order enter u) (of_entry_order u k)) entry in_entry)
+  entry_lawful : (e : Option FrameOp) → ForSome e (FrameOpVars vs) → Lawful vs (entry_steps flag e entry)
+  entry_lawful None in_e = lawful_some vs
+  entry_lawful (Some e) in_e = lawful_each vs (entry_cut flag e) entry (map_all (FrameUseVars vs) (λ u. Lawful vs (entry_cut flag e u))
+      (λ u k. order_lawful vs flag h.of_flag (entry_order e u) (of_entry_order e (in_e e refl) u k)) entry in_entry)
 
   left_lawful : (l : FrameLeave) → FrameLeaveVars vs l → Lawful vs (left_cut flag l)
   left_lawful l k = lawful_then vs (round (copy_cut flag l.leave) l.copies) (round (call_cut flag l.leave) l.calls)
@@ -375,7 +384,7 @@ module _ (vs : List VarId) (flag : VarId) (touch ins : List VarId) (enter : Fram
       (recursion_from_All _ _ k.of_calls)))
 
   orders_lawful : Lawful vs (order_steps flag enter entry leaves)
-  orders_lawful = lawful_then vs (round (entry_cut flag enter) entry) (round (left_cut flag) leaves) entry_lawful
+  orders_lawful = lawful_then vs (entry_steps flag enter entry) (round (left_cut flag) leaves) (entry_lawful enter h.of_enter)
       (lawful_each vs (left_cut flag) leaves (map_all (FrameLeaveVars vs) (λ l. Lawful vs (left_cut flag l)) left_lawful leaves in_leaves))
 
   first_lawful : Lawful vs (λ s. option_and_then (op_steps flag enter leaves) (use_steps flag touch ins s))
@@ -429,11 +438,11 @@ module _ (vs : List VarId) (flag : VarId) (touch ins : List VarId) (enter : Fram
 
     leaves_on : get_or x flag.0 0 ≡ 1 → AllByRecursion (λ (l : FrameLeave). is_on x l.leave ≡ true) leaves
     leaves_on one = all_true (λ (l : FrameLeave). is_on x l.leave) leaves
-        (firsts (is_on x enter) (list_all (λ (l : FrameLeave). is_on x l.leave) leaves) (keep.on one)).1
+        (firsts (enter_on x enter) (list_all (λ (l : FrameLeave). is_on x l.leave) leaves) (keep.on one)).1
 
     leaves_off : get_or x flag.0 0 ≡ 0 → AllByRecursion (λ (l : FrameLeave). not (is_on x l.leave) ≡ true) leaves
     leaves_off none = all_true (λ (l : FrameLeave). not (is_on x l.leave)) leaves
-        (firsts (not (is_on x enter)) (list_all (λ (l : FrameLeave). not (is_on x l.leave)) leaves) (keep.off none)).1
+        (firsts (enter_off x enter) (list_all (λ (l : FrameLeave). not (is_on x l.leave)) leaves) (keep.off none)).1
 
     -- what each Leave keeps
     abbrev OnOff : FrameLeave → Type 0
@@ -445,17 +454,23 @@ module _ (vs : List VarId) (flag : VarId) (touch ins : List VarId) (enter : Fram
         (all_when (get_or x flag.0 0 ≡ 1) (λ l. is_on x l.leave ≡ true) leaves leaves_on)
         (all_when (get_or x flag.0 0 ≡ 0) (λ l. not (is_on x l.leave) ≡ true) leaves leaves_off))
 
+    enter_keeps : (e : Option FrameOp) → ForSome e (FrameOpVars vs) → (get_or x flag.0 0 ≡ 1 → enter_on x e ≡ true)
+        → (get_or x flag.0 0 ≡ 0 → enter_off x e ≡ true) → (s : Sets) → HasVars vs s → IsIn x s → Kept x (enter_cut flag e s)
+    enter_keeps None in_e on off s k there = there
+    enter_keeps (Some e) in_e on off s k there = op_keeps vs flag h.of_flag e (in_e e refl) x on off s k there
+
     ops_keep : (s : Sets) → HasVars vs s → IsIn x s → Kept x (op_steps flag enter leaves s)
-    ops_keep s k there = then_kept (round (leave_op_cut flag) leaves) x (op_cut flag enter s)
-        (op_keeps vs flag h.of_flag enter h.of_enter x
-        (λ one. (firsts (is_on x enter) (list_all (λ (l : FrameLeave). is_on x l.leave) leaves) (keep.on one)).0)
-        (λ none. (firsts (not (is_on x enter)) (list_all (λ (l : FrameLeave). not (is_on x l.leave)) leaves) (keep.off none)).0) s k there)
+    ops_keep s k there = then_kept (round (leave_op_cut flag) leaves) x (enter_cut flag enter s)
+        (enter_keeps enter h.of_enter
+        (λ one. (firsts (enter_on x enter) (list_all (λ (l : FrameLeave). is_on x l.leave) leaves) (keep.on one)).0)
+        (λ none. (firsts (enter_off x enter) (list_all (λ (l : FrameLeave). not (is_on x l.leave)) leaves) (keep.off none)).0) s k there)
         (λ m in_m. each_kept vs (λ l. FrameLeaveVars vs l × OnOff l) (leave_op_cut flag) x
         (λ l p. op_keeps vs flag h.of_flag l.leave p.0.of_leave x p.1.0 p.1.1) leaves leave_of m (known_in vs s m x there in_m k) in_m)
 
     -- the orders of an assignment
-    after_order : (u : FrameUse) → is_after (get_or x enter.at.0 0) x u ≡ true → order_holds (entry_order enter u) x ≡ true
-    after_order u e = not_or (counts x u) (nat_le (get_or x enter.at.0 0 + 1) (get_or x u.at.0 0))
+    after_order : (enter : FrameOp) (u : FrameUse) → is_after (get_or x enter.at.0 0) x u ≡ true
+        → order_holds (entry_order enter u) x ≡ true
+    after_order enter u e = not_or (counts x u) (nat_le (get_or x enter.at.0 0 + 1) (get_or x u.at.0 0))
         (λ is. (let less = or_not (counts x u) (nat_lt (get_or x enter.at.0 0) (get_or x u.at.0 0)) e is in grind (arith, nat_tests, less)))
 
     until_order : (leave : FrameOp) (u : FrameUse) → is_until (get_or x leave.at.0 0) x u ≡ true → order_holds (copy_order leave u) x ≡ true
@@ -467,17 +482,25 @@ module _ (vs : List VarId) (flag : VarId) (touch ins : List VarId) (enter : Fram
     before_order leave v e = not_or (nat_le 1 1 && nat_le 1 1) (nat_le (get_or x v.0 0 + 1) (get_or x leave.at.0 0))
         (λ is. grind (arith, nat_tests, e))
 
-    entry_of : AllByRecursion (λ u. FrameUseVars vs u × (get_or x flag.0 0 ≡ 1 → is_after (get_or x enter.at.0 0) x u ≡ true)) entry
-    entry_of = both_all (FrameUseVars vs) (λ u. get_or x flag.0 0 ≡ 1 → is_after (get_or x enter.at.0 0) x u ≡ true) entry in_entry
-        (all_when (get_or x flag.0 0 ≡ 1) (λ u. is_after (get_or x enter.at.0 0) x u ≡ true) entry
-        (λ one. all_true (is_after (get_or x enter.at.0 0) x) entry
-        (firsts (list_all (is_after (get_or x enter.at.0 0) x) entry) (list_all (is_left x) leaves) (keep.order one)).0))
+    entry_of : (e : FrameOp) → (get_or x flag.0 0 ≡ 1 → all_entered (Some e) entry x ≡ true)
+        → AllByRecursion (λ u. FrameUseVars vs u × (get_or x flag.0 0 ≡ 1 → is_after (get_or x e.at.0 0) x u ≡ true)) entry
+    entry_of e entered = both_all (FrameUseVars vs) (λ u. get_or x flag.0 0 ≡ 1 → is_after (get_or x e.at.0 0) x u ≡ true) entry in_entry
+        (all_when (get_or x flag.0 0 ≡ 1) (λ u. is_after (get_or x e.at.0 0) x u ≡ true) entry
+        (λ one. all_true (is_after (get_or x e.at.0 0) x) entry (entered one)))
+
+    entry_keeps : (e : Option FrameOp) → ForSome e (FrameOpVars vs) → (get_or x flag.0 0 ≡ 1 → all_entered e entry x ≡ true)
+        → (s : Sets) → HasVars vs s → IsIn x s → Kept x (entry_steps flag e entry s)
+    entry_keeps None in_e entered s k there = there
+    entry_keeps (Some e) in_e entered s k there =
+        each_kept vs (λ u. FrameUseVars vs u × (get_or x flag.0 0 ≡ 1 → is_after (get_or x e.at.0 0) x u ≡ true)) (entry_cut flag e) x
+        (λ u q. order_keeps vs flag h.of_flag (entry_order e u) (of_entry_order e (in_e e refl) u q.0) x (λ one. after_order e u (q.1 one))) entry
+        (entry_of e entered) s k there
 
     left_of : AllByRecursion (λ l. FrameLeaveVars vs l × (get_or x flag.0 0 ≡ 1 → is_left x l ≡ true)) leaves
     left_of = both_all (FrameLeaveVars vs) (λ l. get_or x flag.0 0 ≡ 1 → is_left x l ≡ true) leaves in_leaves
         (all_when (get_or x flag.0 0 ≡ 1) (λ l. is_left x l ≡ true) leaves
         (λ one. all_true (is_left x) leaves
-        (firsts (list_all (is_after (get_or x enter.at.0 0) x) entry) (list_all (is_left x) leaves) (keep.order one)).1))
+        (firsts (all_entered enter entry x) (list_all (is_left x) leaves) (keep.order one)).1))
 
     left_keeps : (l : FrameLeave) → FrameLeaveVars vs l × (get_or x flag.0 0 ≡ 1 → is_left x l ≡ true) → (m : Sets) → HasVars vs m
         → IsIn x m → Kept x (left_cut flag l m)
@@ -513,12 +536,9 @@ module _ (vs : List VarId) (flag : VarId) (touch ins : List VarId) (enter : Fram
             (list_all (λ (v : VarId). nat_lt (get_or x v.0 0) (get_or x l.leave.at.0 0)) l.calls) (p.1 one)).1))
 
     orders_keep : (s : Sets) → HasVars vs s → IsIn x s → Kept x (order_steps flag enter entry leaves s)
-    orders_keep s k there = then_kept (round (left_cut flag) leaves) x (round (entry_cut flag enter) entry s)
-        (each_kept vs (λ u. FrameUseVars vs u × (get_or x flag.0 0 ≡ 1 → is_after (get_or x enter.at.0 0) x u ≡ true)) (entry_cut flag
-        enter) x
-        (λ u q. order_keeps vs flag h.of_flag (entry_order enter u) (of_entry_order u q.0) x (λ one. after_order u (q.1 one))) entry
-        entry_of
-        s k there)
+    orders_keep s k there = then_kept (round (left_cut flag) leaves) x (entry_steps flag enter entry s)
+        (entry_keeps enter h.of_enter
+        (λ one. (firsts (all_entered enter entry x) (list_all (is_left x) leaves) (keep.order one)).0) s k there)
         (λ m in_m. each_kept vs (λ l. FrameLeaveVars vs l × (get_or x flag.0 0 ≡ 1 → is_left x l ≡ true)) (left_cut flag) x left_keeps
         leaves
         left_of m (known_in vs s m x there in_m k) in_m)
@@ -530,6 +550,6 @@ module _ (vs : List VarId) (flag : VarId) (touch ins : List VarId) (enter : Fram
         (λ m in_m. ops_keep m (known_in vs s m x there in_m k) in_m))
         (λ m in_m. orders_keep m (known_in vs s m x there in_m k) in_m)
 
-  pub frame_keeps : (s : Sets) (x : List ℕ) → HasVars vs s → IsIn x s → frame_holds flag touch ins enter entry leaves x ≡ true
-      → Kept x (frame_steps flag touch ins enter entry leaves s)
-  frame_keeps s x k there holds = steps_keep x (keeps_of flag touch ins enter entry leaves x holds) s k there
+  pub frame_keeps : (whole : Bool) (s : Sets) (x : List ℕ) → HasVars vs s → IsIn x s
+      → frame_holds whole flag touch ins enter entry leaves x ≡ true → Kept x (frame_steps flag touch ins enter entry leaves s)
+  frame_keeps whole s x k there holds = steps_keep x (keeps_of whole flag touch ins enter entry leaves x holds) s k there

@@ -1,5 +1,5 @@
 -- What Frame lets a store keep.
-use Rattle.std.specs.Prelude.{ℕ, ◌≡◌, ◌+◌, ◌-◌, ◌^◌, Bool, true, not, ◌&&◌, ◌||◌, List, nat_eq, nat_le, slice_index, option_and_then}
+use Rattle.std.specs.Prelude.{ℕ, ◌≡◌, ◌+◌, ◌-◌, ◌^◌, Bool, true, not, ◌&&◌, ◌||◌, List, nat_eq, nat_le, slice_index, option_and_then, None, Some}
 use Rattle.std.specs.declared.option.Option.{Option}
 use Rattle.std.specs.List.{list_any}
 use Rattle.un_base.specs.declared.ids.VarId.{VarId}
@@ -51,6 +51,11 @@ slot_cut flag v s = when_cut (is_unused flag) (up_to (FIRST_SLOT - 1)) v s
 abbrev pub op_cut : VarId → FrameOp → Sets → Option Sets
 op_cut flag op s = option_and_then (when_cut (is_only flag 1) (other_than 0) op.instr) (when_cut (is_only flag 0) (up_to 0) op.instr s)
 
+-- Enter, where there is one
+abbrev pub enter_cut : VarId → Option FrameOp → Sets → Option Sets
+enter_cut flag None s = Some s
+enter_cut flag (Some enter) s = op_cut flag enter s
+
 abbrev pub leave_op_cut : VarId → FrameLeave → Sets → Option Sets
 leave_op_cut flag l s = op_cut flag l.leave s
 
@@ -91,6 +96,11 @@ order_cut flag o s =
 abbrev pub entry_cut : VarId → FrameOp → FrameUse → Sets → Option Sets
 entry_cut flag enter u s = order_cut flag (entry_order enter u) s
 
+-- all that needs the frame in the entry block, where Enter is there
+abbrev pub entry_steps : VarId → Option FrameOp → List FrameUse → Sets → Option Sets
+entry_steps flag None entry s = Some s
+entry_steps flag (Some enter) entry s = round (entry_cut flag enter) entry s
+
 abbrev pub copy_cut : VarId → FrameOp → FrameUse → Sets → Option Sets
 copy_cut flag leave u s = order_cut flag (copy_order leave u) s
 
@@ -109,14 +119,14 @@ use_steps flag touch ins s =
     option_and_then (round (slot_cut flag) ins) (option_and_then (round (touch_cut flag) touch) (flag_cut flag touch ins s))
 
 -- Enter and Leave by the flag
-abbrev pub op_steps : VarId → FrameOp → List FrameLeave → Sets → Option Sets
-op_steps flag enter leaves s = option_and_then (round (leave_op_cut flag) leaves) (op_cut flag enter s)
+abbrev pub op_steps : VarId → Option FrameOp → List FrameLeave → Sets → Option Sets
+op_steps flag enter leaves s = option_and_then (round (leave_op_cut flag) leaves) (enter_cut flag enter s)
 
 -- the orders by the flag
-abbrev pub order_steps : VarId → FrameOp → List FrameUse → List FrameLeave → Sets → Option Sets
-order_steps flag enter entry leaves s = option_and_then (round (left_cut flag) leaves) (round (entry_cut flag enter) entry s)
+abbrev pub order_steps : VarId → Option FrameOp → List FrameUse → List FrameLeave → Sets → Option Sets
+order_steps flag enter entry leaves s = option_and_then (round (left_cut flag) leaves) (entry_steps flag enter entry s)
 
-abbrev pub frame_steps : VarId → List VarId → List VarId → FrameOp → List FrameUse → List FrameLeave → Sets → Option Sets
+abbrev pub frame_steps : VarId → List VarId → List VarId → Option FrameOp → List FrameUse → List FrameLeave → Sets → Option Sets
 frame_steps flag touch ins enter entry leaves s =
     option_and_then (order_steps flag enter entry leaves) (option_and_then (op_steps flag enter leaves) (use_steps flag touch ins s))
 

@@ -1,6 +1,8 @@
 -- What Frame looks at.
-use Rattle.std.proofs.Common.{ℕ, ◌≡◌, ◌∙◌, Bool, true, cond, not, ◌&&◌, ◌||◌, List, [], ◌∷◌, get_or, nat_eq, nat_le, nat_lt, All, refl}
+use Rattle.std.proofs.Common.{ℕ, ◌≡◌, ◌∙◌, Bool, true, cond, not, ◌&&◌, ◌||◌, List, [], ◌∷◌, get_or, nat_eq, nat_le, nat_lt, All, None, Some, refl}
 use Rattle.std.proofs.Common.{ap}
+use Rattle.std.specs.declared.option.Option.{Option}
+use Rattle.std.specs.Option.{ForSome}
 use Rattle.std.specs.List.{AllByRecursion, list_any, list_all}
 use Rattle.std.proofs.lemmas.List.Elements.{recursion_from_All}
 use Rattle.un_base.specs.declared.ids.VarId.{VarId}
@@ -13,6 +15,7 @@ use Rattle.un_alt.specs.declared.frame.FrameUse.{FrameUse}
 use Rattle.un_alt.specs.declared.frame.FrameLeave.{FrameLeave}
 use Rattle.un_ir.specs.declared.extended.TheConstants.{SPILL, RELOAD}
 use Rattle.un_alt.specs.Frame.{is_access, is_slot, uses_frame, is_on, all_on, none_on, counts, is_after, is_until, is_left, in_order}
+use Rattle.un_alt.specs.Frame.{enter_on, enter_off, all_entered}
 use Rattle.un_alt.specs.Frame.{frame_holds, FrameOpVars, FrameUseVars, FrameLeaveVars, FrameVars}
 
 -- tests that agree at each item agree on a list
@@ -50,18 +53,26 @@ module _ (vs : List VarId) (x y : List ℕ) (same : SameAt vs x y) where
   on_alike : (o : FrameOp) → FrameOpVars vs o → is_on x o ≡ is_on y o
   on_alike o h = var_alike (λ n. not (nat_eq n 0)) o.instr h.of_instr
 
-  all_on_alike : (enter : FrameOp) (leaves : List FrameLeave) → FrameOpVars vs enter → All (FrameLeaveVars vs) leaves → all_on enter
-      leaves x ≡ all_on enter leaves y
-  all_on_alike enter leaves h k = and_alike (is_on x enter) (list_all (λ (l : FrameLeave). is_on x l.leave) leaves) (is_on y enter)
+  enter_on_alike : (enter : Option FrameOp) → ForSome enter (FrameOpVars vs) → enter_on x enter ≡ enter_on y enter
+  enter_on_alike None h = refl
+  enter_on_alike (Some enter) h = on_alike enter (h enter refl)
+
+  enter_off_alike : (enter : Option FrameOp) → ForSome enter (FrameOpVars vs) → enter_off x enter ≡ enter_off y enter
+  enter_off_alike None h = refl
+  enter_off_alike (Some enter) h = ap not (on_alike enter (h enter refl))
+
+  all_on_alike : (enter : Option FrameOp) (leaves : List FrameLeave) → ForSome enter (FrameOpVars vs) → All (FrameLeaveVars vs) leaves
+      → all_on enter leaves x ≡ all_on enter leaves y
+  all_on_alike enter leaves h k = and_alike (enter_on x enter) (list_all (λ (l : FrameLeave). is_on x l.leave) leaves) (enter_on y enter)
       (list_all (λ (l : FrameLeave). is_on y l.leave) leaves)
-      (on_alike enter h) (all_alike (FrameLeaveVars vs) (λ (l : FrameLeave). is_on x l.leave) (λ (l : FrameLeave). is_on y l.leave)
+      (enter_on_alike enter h) (all_alike (FrameLeaveVars vs) (λ (l : FrameLeave). is_on x l.leave) (λ (l : FrameLeave). is_on y l.leave)
       (λ l at. on_alike l.leave at.of_leave) leaves (recursion_from_All _ _ k))
 
-  none_on_alike : (enter : FrameOp) (leaves : List FrameLeave) → FrameOpVars vs enter → All (FrameLeaveVars vs) leaves → none_on enter
-      leaves x ≡ none_on enter leaves y
-  none_on_alike enter leaves h k = and_alike (not (is_on x enter)) (list_all (λ (l : FrameLeave). not (is_on x l.leave)) leaves)
-      (not (is_on y enter)) (list_all (λ (l : FrameLeave). not (is_on y l.leave)) leaves)
-      (ap not (on_alike enter h)) (all_alike (FrameLeaveVars vs) (λ (l : FrameLeave). not (is_on x l.leave))
+  none_on_alike : (enter : Option FrameOp) (leaves : List FrameLeave) → ForSome enter (FrameOpVars vs) → All (FrameLeaveVars vs) leaves
+      → none_on enter leaves x ≡ none_on enter leaves y
+  none_on_alike enter leaves h k = and_alike (enter_off x enter) (list_all (λ (l : FrameLeave). not (is_on x l.leave)) leaves)
+      (enter_off y enter) (list_all (λ (l : FrameLeave). not (is_on y l.leave)) leaves)
+      (enter_off_alike enter h) (all_alike (FrameLeaveVars vs) (λ (l : FrameLeave). not (is_on x l.leave))
       (λ (l : FrameLeave). not (is_on y l.leave)) (λ l at. ap not (on_alike l.leave at.of_leave)) leaves (recursion_from_All _ _ k))
 
   counts_alike : (u : FrameUse) → FrameUseVars vs u → counts x u ≡ counts y u
@@ -86,21 +97,27 @@ module _ (vs : List VarId) (x y : List ℕ) (same : SameAt vs x y) where
       (all_alike (λ v. among vs v ≡ true) (λ (v : VarId). nat_lt (get_or x v.0 0) t) (λ (v : VarId). nat_lt (get_or y v.0 0) t')
       (λ v at. ap (nat_lt (get_or x v.0 0)) e ∙ var_alike (λ n. nat_lt n t') v at) l.calls (recursion_from_All _ _ h.of_calls))
 
-  order_alike : (enter : FrameOp) (entry : List FrameUse) (leaves : List FrameLeave) → FrameOpVars vs enter → All (FrameUseVars vs)
-      entry → All (FrameLeaveVars vs) leaves
-      → in_order enter entry leaves x ≡ in_order enter entry leaves y
-  order_alike enter entry leaves h k m =
+  entered_alike : (enter : Option FrameOp) (entry : List FrameUse) → ForSome enter (FrameOpVars vs) → All (FrameUseVars vs) entry
+      → all_entered enter entry x ≡ all_entered enter entry y
+  entered_alike None entry h k = refl
+  entered_alike (Some enter) entry h k =
       let t = get_or x enter.at.0 0 in
       let t' = get_or y enter.at.0 0 in
-      and_alike (list_all (is_after t x) entry) (list_all (is_left x) leaves) (list_all (is_after t' y) entry) (list_all (is_left y) leaves)
-      (all_alike (FrameUseVars vs) (is_after t x) (is_after t' y) (after_alike t t' (same_var vs x y same enter.at h.of_at)) entry
-      (recursion_from_All _ _ k))
+      all_alike (FrameUseVars vs) (is_after t x) (is_after t' y) (after_alike t t' (same_var vs x y same enter.at (h enter refl).of_at)) entry
+      (recursion_from_All _ _ k)
+
+  order_alike : (enter : Option FrameOp) (entry : List FrameUse) (leaves : List FrameLeave) → ForSome enter (FrameOpVars vs)
+      → All (FrameUseVars vs) entry → All (FrameLeaveVars vs) leaves
+      → in_order enter entry leaves x ≡ in_order enter entry leaves y
+  order_alike enter entry leaves h k m =
+      and_alike (all_entered enter entry x) (list_all (is_left x) leaves) (all_entered enter entry y) (list_all (is_left y) leaves)
+      (entered_alike enter entry h k)
       (all_alike (FrameLeaveVars vs) (is_left x) (is_left y) left_alike leaves (recursion_from_All _ _ m))
 
-  pub frame_looks : (flag : VarId) (touch ins : List VarId) (enter : FrameOp) (entry : List FrameUse) (leaves : List FrameLeave) →
+  pub frame_looks : (whole : Bool) (flag : VarId) (touch ins : List VarId) (enter : Option FrameOp) (entry : List FrameUse) (leaves : List FrameLeave) →
       FrameVars vs flag touch ins enter entry leaves
-      → frame_holds flag touch ins enter entry leaves x ≡ frame_holds flag touch ins enter entry leaves y
-  frame_looks flag touch ins enter entry leaves h =
+      → frame_holds whole flag touch ins enter entry leaves x ≡ frame_holds whole flag touch ins enter entry leaves y
+  frame_looks whole flag touch ins enter entry leaves h =
       let u = uses_frame touch ins x in
       let u' = uses_frame touch ins y in
       let e : u ≡ u' = uses_alike touch ins h.of_touch h.of_ins in
@@ -108,14 +125,15 @@ module _ (vs : List VarId) (x y : List ℕ) (same : SameAt vs x y) where
       (all_on_alike enter leaves h.of_enter h.of_leaves) (order_alike enter entry leaves h.of_enter h.of_entry h.of_leaves) in
       let n = none_on_alike enter leaves h.of_enter h.of_leaves in
       let z = var_alike (λ m. not (nat_eq m 0)) flag h.of_flag in
-      let used = and_alike u (all_on enter leaves x && in_order enter entry leaves x) u'
-      (all_on enter leaves y && in_order enter entry leaves y) e a in
+      let used = and_alike (not whole || u) (all_on enter leaves x && in_order enter entry leaves x) (not whole || u')
+      (all_on enter leaves y && in_order enter entry leaves y) (ap (λ (b : Bool). not whole || b) e) a in
       let rest = or_alike (not (nat_eq (get_or x flag.0 0) 0)) (none_on enter leaves x) (not (nat_eq (get_or y flag.0 0) 0))
       (none_on enter leaves y) z n in
       let unused = and_alike (not u) (not (nat_eq (get_or x flag.0 0) 0) || none_on enter leaves x) (not u')
       (not (nat_eq (get_or y flag.0 0) 0) || none_on enter leaves y) (ap not e) rest in
-      ap (λ (b : Bool). cond b (u && (all_on enter leaves x && in_order enter entry leaves x))
+      ap (λ (b : Bool). cond b ((not whole || u) && (all_on enter leaves x && in_order enter entry leaves x))
       (not u && (not (nat_eq (get_or x flag.0 0) 0) || none_on enter leaves x))) (var_alike (λ m. nat_eq m 1) flag h.of_flag)
       ∙ (ap (λ (b : Bool). cond (nat_eq (get_or y flag.0 0) 1) b
       (not u && (not (nat_eq (get_or x flag.0 0) 0) || none_on enter leaves x))) used
-      ∙ ap (λ (b : Bool). cond (nat_eq (get_or y flag.0 0) 1) (u' && (all_on enter leaves y && in_order enter entry leaves y)) b) unused)
+      ∙ ap (λ (b : Bool). cond (nat_eq (get_or y flag.0 0) 1) ((not whole || u') && (all_on enter leaves y && in_order enter entry leaves y)) b)
+      unused)

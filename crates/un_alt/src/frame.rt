@@ -5,6 +5,7 @@ ghost use Rattle.un_base.specs.declared.ids.VarId.{VarId};
 ghost use Rattle.std.specs.List.{list_any, list_all};
 ghost use Rattle.un_prop.specs.LastLaws.{Ascend};
 ghost use Rattle.un_alt.specs.Frame.{is_access, is_slot, uses_frame, is_on, all_on, none_on, counts, is_after, is_until, is_left, in_order};
+ghost use Rattle.un_alt.specs.Frame.{enter_on, enter_off, all_entered};
 ghost use Rattle.un_alt.specs.Frame.{FrameVars};
 
 use crate::frame_cuts::keep_frame;
@@ -103,21 +104,41 @@ fn leaves_off(fixed: &[u32], leaves: &[FrameLeave]) -> bool
     leaves.iter().all(|l| !is_on(fixed, l.leave))
 }
 
-/// Whether Enter and every Leave are active.
-fn all_on(fixed: &[u32], enter: FrameOp, leaves: &[FrameLeave]) -> bool
+/// Whether Enter, where there is one, is active.
+fn enter_on(fixed: &[u32], enter: Option<FrameOp>) -> bool
+    ensures { result ≡ enter_on fixed.now enter }
+{
+    match enter {
+        None => true,
+        Some(op) => is_on(fixed, op),
+    }
+}
+
+/// Whether Enter, where there is one, is inactive.
+fn enter_off(fixed: &[u32], enter: Option<FrameOp>) -> bool
+    ensures { result ≡ enter_off fixed.now enter }
+{
+    match enter {
+        None => true,
+        Some(op) => !is_on(fixed, op),
+    }
+}
+
+/// Whether Enter, where there is one, and every Leave are active.
+fn all_on(fixed: &[u32], enter: Option<FrameOp>, leaves: &[FrameLeave]) -> bool
     ensures { result ≡ all_on enter leaves.now fixed.now }
 {
-    if !is_on(fixed, enter) {
+    if !enter_on(fixed, enter) {
         return false;
     }
     leaves_on(fixed, leaves)
 }
 
 /// Whether neither Enter nor any Leave is active.
-fn none_on(fixed: &[u32], enter: FrameOp, leaves: &[FrameLeave]) -> bool
+fn none_on(fixed: &[u32], enter: Option<FrameOp>, leaves: &[FrameLeave]) -> bool
     ensures { result ≡ none_on enter leaves.now fixed.now }
 {
-    if is_on(fixed, enter) {
+    if !enter_off(fixed, enter) {
         return false;
     }
     leaves_off(fixed, leaves)
@@ -190,19 +211,33 @@ fn all_left(fixed: &[u32], leaves: &[FrameLeave]) -> bool
     leaves.iter().all(|l| is_left(fixed, l))
 }
 
+/// Whether what needs the frame in the entry block issues after Enter, where Enter is there.
+fn all_entered(fixed: &[u32], enter: Option<FrameOp>, entry: &[FrameUse]) -> bool
+    ensures { result ≡ all_entered enter entry.now fixed.now }
+{
+    match enter {
+        None => true,
+        Some(op) => all_after(fixed, value(fixed, op.at), entry),
+    }
+}
+
 /// Whether what needs the frame in the entry block issues after Enter, and every Leave is in order.
-fn in_order(fixed: &[u32], enter: FrameOp, entry: &[FrameUse], leaves: &[FrameLeave]) -> bool
+fn in_order(
+    fixed: &[u32],
+    enter: Option<FrameOp>,
+    entry: &[FrameUse],
+    leaves: &[FrameLeave],
+) -> bool
     ensures { result ≡ in_order enter entry.now leaves.now fixed.now }
 {
-    let t = value(fixed, enter.at);
-    if !all_after(fixed, t, entry) {
+    if !all_entered(fixed, enter, entry) {
         return false;
     }
     all_left(fixed, leaves)
 }
 
 /// Whether Enter and every Leave are active and in order.
-fn stands(fixed: &[u32], enter: FrameOp, entry: &[FrameUse], leaves: &[FrameLeave]) -> bool
+fn stands(fixed: &[u32], enter: Option<FrameOp>, entry: &[FrameUse], leaves: &[FrameLeave]) -> bool
     ensures { result ≡ all_on enter leaves.now fixed.now && in_order enter entry.now leaves.now fixed.now }
 {
     if !all_on(fixed, enter, leaves) {
@@ -211,19 +246,22 @@ fn stands(fixed: &[u32], enter: FrameOp, entry: &[FrameUse], leaves: &[FrameLeav
     in_order(fixed, enter, entry, leaves)
 }
 
-/// `flag` is 1 exactly where a copy of `touch` is a Spill or a Reload, or a value of `ins` at a block's start has a slot. Then `enter`
-/// and every Leave of `leaves` are active; what needs the frame in the entry block, `entry`, issues after Enter; in a block with
-/// a Leave no copy that needs the frame issues after it, and each call before it. Where `flag` is 0, Enter and Leave are inactive.
+/// Where a copy of `touch` is a Spill or a Reload, or a value of `ins` at a block's start has a slot, `flag` is 1; and where `is_whole`,
+/// it is 1 there alone. Where it is 1, `enter` and every Leave of `leaves` are active; what needs the frame in the entry block, `entry`,
+/// issues after Enter; in a block with a Leave no copy that needs the frame issues after it, and each call before it. Where `flag` is 0,
+/// Enter and Leave are inactive.
 #[derive(Drop)]
 pub struct Frame {
+    /// Whether all of the function is here. A part of it may have the flag set for a use elsewhere.
+    pub is_whole: bool,
     /// The variable of the frame flag: 1 where the code has a frame, else 0.
     pub flag: VarId,
-    /// The variables of the instructions of all copies.
+    /// The variables of the instructions of the copies.
     pub touch: Items<VarId>,
     /// The variables of the registers of the values at blocks' starts.
     pub ins: Items<VarId>,
-    /// Enter, of the entry block.
-    pub enter: FrameOp,
+    /// Enter, where the entry block is here.
+    pub enter: Option<FrameOp>,
     /// What issues after Enter where it needs the frame: the copies and calls of the entry block, and its Leave.
     pub entry: Items<FrameUse>,
     /// Each Leave, with what has to issue before it.
@@ -240,7 +278,7 @@ impl Predicate for Frame {
 
     ghost scope = { λ p. p.vars };
 
-    ghost holds = { λ p x. frame_holds p.flag p.touch p.ins p.enter p.entry p.leaves x };
+    ghost holds = { λ p x. frame_holds p.is_whole p.flag p.touch p.ins p.enter p.entry p.leaves x };
 
     fn reads(&self) -> &[VarId] {
         self.vars.as_slice()
@@ -250,7 +288,7 @@ impl Predicate for Frame {
         let used = uses(fixed, self.touch.as_slice(), self.ins.as_slice());
         match value(fixed, self.flag) {
             1 => {
-                if !used {
+                if self.is_whole && !used {
                     return false;
                 }
                 stands(
@@ -270,7 +308,7 @@ impl Predicate for Frame {
         }
     }
 
-    ghost looks = { λ p x y same. frame_looks p.vars x y same p.flag p.touch p.ins p.enter p.entry p.leaves p.among };
+    ghost looks = { λ p x y same. frame_looks p.vars x y same p.is_whole p.flag p.touch p.ins p.enter p.entry p.leaves p.among };
 }
 
 impl Propagator for Frame {
@@ -283,10 +321,10 @@ impl Propagator for Frame {
     ghost use Rattle.un_alt.specs.FrameCuts.{frame_steps};
     ghost use Rattle.un_alt.specs.FrameCutLaws.{frame_lawful, frame_keeps};
 
-    ghost cut = { λ p s. option_and_then (last_cut p.vars (frame_holds p.flag p.touch p.ins p.enter p.entry p.leaves))
+    ghost cut = { λ p s. option_and_then (last_cut p.vars (frame_holds p.is_whole p.flag p.touch p.ins p.enter p.entry p.leaves))
         (frame_steps p.flag p.touch p.ins p.enter p.entry p.leaves s) };
 
-    ghost parts = { λ p. one_part p.vars (frame_holds p.flag p.touch p.ins p.enter p.entry p.leaves) };
+    ghost parts = { λ p. one_part p.vars (frame_holds p.is_whole p.flag p.touch p.ins p.enter p.entry p.leaves) };
 
     ghost strong = { λ p s. Unit {0} };
 
@@ -297,23 +335,23 @@ impl Propagator for Frame {
         check_last(self, w, scratch, did)
     }
 
-    ghost keeps = { λ p s x k full there holds. keeps_checked p.vars (frame_holds p.flag p.touch p.ins p.enter p.entry p.leaves)
-        (λ x y same. frame_looks p.vars x y same p.flag p.touch p.ins p.enter p.entry p.leaves p.among) p.ascend
+    ghost keeps = { λ p s x k full there holds. keeps_checked p.vars (frame_holds p.is_whole p.flag p.touch p.ins p.enter p.entry p.leaves)
+        (λ x y same. frame_looks p.vars x y same p.is_whole p.flag p.touch p.ins p.enter p.entry p.leaves p.among) p.ascend
         (frame_steps p.flag p.touch p.ins p.enter p.entry p.leaves)
         (frame_lawful p.vars p.flag p.touch p.ins p.enter p.entry p.leaves p.among) s x k
-        (frame_keeps p.vars p.flag p.touch p.ins p.enter p.entry p.leaves p.among s x k there holds) there.long holds };
+        (frame_keeps p.vars p.flag p.touch p.ins p.enter p.entry p.leaves p.among p.is_whole s x k there holds) there.long holds };
 
-    ghost lawful = { λ p. lawful_checked p.vars (frame_holds p.flag p.touch p.ins p.enter p.entry p.leaves)
-        (λ x y same. frame_looks p.vars x y same p.flag p.touch p.ins p.enter p.entry p.leaves p.among) p.ascend
+    ghost lawful = { λ p. lawful_checked p.vars (frame_holds p.is_whole p.flag p.touch p.ins p.enter p.entry p.leaves)
+        (λ x y same. frame_looks p.vars x y same p.is_whole p.flag p.touch p.ins p.enter p.entry p.leaves p.among) p.ascend
         (frame_steps p.flag p.touch p.ins p.enter p.entry p.leaves)
         (frame_lawful p.vars p.flag p.touch p.ins p.enter p.entry p.leaves p.among) };
 
-    ghost whole = { λ p x. one_whole p.vars (frame_holds p.flag p.touch p.ins p.enter p.entry p.leaves) x };
+    ghost whole = { λ p x. one_whole p.vars (frame_holds p.is_whole p.flag p.touch p.ins p.enter p.entry p.leaves) x };
 
-    ghost within = { λ p. one_within p.vars (frame_holds p.flag p.touch p.ins p.enter p.entry p.leaves) };
+    ghost within = { λ p. one_within p.vars (frame_holds p.is_whole p.flag p.touch p.ins p.enter p.entry p.leaves) };
 
-    ghost forward = { λ p. forward_checked p.vars (frame_holds p.flag p.touch p.ins p.enter p.entry p.leaves)
-        (λ x y same. frame_looks p.vars x y same p.flag p.touch p.ins p.enter p.entry p.leaves p.among) p.ascend
+    ghost forward = { λ p. forward_checked p.vars (frame_holds p.is_whole p.flag p.touch p.ins p.enter p.entry p.leaves)
+        (λ x y same. frame_looks p.vars x y same p.is_whole p.flag p.touch p.ins p.enter p.entry p.leaves p.among) p.ascend
         (frame_steps p.flag p.touch p.ins p.enter p.entry p.leaves)
         (frame_lawful p.vars p.flag p.touch p.ins p.enter p.entry p.leaves p.among) };
 

@@ -11,7 +11,7 @@ ghost use Rattle.un_prop.specs.When.{is_only, when_cut, other_than, up_to};
 ghost use Rattle.un_prop.specs.declared.propagator.Pruned.TheVariants.{Failed, Same};
 ghost use Rattle.un_alt.specs.Frame.{FrameOpVars, FrameUseVars, FrameLeaveVars};
 ghost use Rattle.un_alt.specs.FrameCuts.{is_within, is_unused, sure_use, flag_cut, touch_cut, slot_cut, op_cut, leave_op_cut, entry_cut, copy_cut};
-ghost use Rattle.un_alt.specs.FrameCuts.{call_cut, left_cut, use_steps, op_steps, order_steps, frame_steps};
+ghost use Rattle.un_alt.specs.FrameCuts.{call_cut, left_cut, use_steps, op_steps, order_steps, frame_steps, enter_cut, entry_steps};
 
 use crate::frame::{Frame, FrameLeave, FrameOp, FrameUse};
 use crate::order::{Order, is_within, keep_order};
@@ -213,6 +213,21 @@ fn keep_op(w: &mut Window<'_>, before: Pruned, p: &Frame, op: FrameOp) -> Pruned
     keep_on(w, first, p, op)
 }
 
+/// Enter, where there is one, is active as the flag says.
+fn keep_enter(w: &mut Window<'_>, before: Pruned, p: &Frame) -> Pruned
+    requires vars { w.old.vars.now ≡ p.now.vars }
+    requires known { HasVars p.now.vars w.old.store.now.sets }
+    requires live { before ≢ Failed → NoneEmpty w.old.store.now.sets }
+    ensures step { Stepped w.old.vars.now (enter_cut p.now.flag p.now.enter) w.old.store.now w.new.store.now before result }
+    ensures same_reference { w.new.store.ghost_name ≡ w.old.store.ghost_name }
+    ensures vars { w.new.vars ≡ w.old.vars }
+{
+    match p.enter {
+        None => before,
+        Some(op) => keep_op(w, before, p, op),
+    }
+}
+
 /// Every Leave is active as the flag says.
 fn keep_leaves(w: &mut Window<'_>, before: Pruned, p: &Frame) -> Pruned
     requires vars { w.old.vars.now ≡ p.now.vars }
@@ -231,11 +246,12 @@ fn keep_leaves(w: &mut Window<'_>, before: Pruned, p: &Frame) -> Pruned
 }
 
 /// Where the flag is 1, what surely needs the frame in the entry block is after Enter.
-fn keep_entry(w: &mut Window<'_>, before: Pruned, p: &Frame) -> Pruned
+fn keep_after(w: &mut Window<'_>, before: Pruned, p: &Frame, enter: FrameOp) -> Pruned
     requires vars { w.old.vars.now ≡ p.now.vars }
+    requires of_enter { FrameOpVars p.now.vars enter }
     requires known { HasVars p.now.vars w.old.store.now.sets }
     requires live { before ≢ Failed → NoneEmpty w.old.store.now.sets }
-    ensures step { Stepped w.old.vars.now (round (entry_cut p.now.flag p.now.enter) p.now.entry) w.old.store.now w.new.store.now
+    ensures step { Stepped w.old.vars.now (round (entry_cut p.now.flag enter) p.now.entry) w.old.store.now w.new.store.now
         before result }
     ensures same_reference { w.new.store.ghost_name ≡ w.old.store.ghost_name }
     ensures vars { w.new.vars ≡ w.old.vars }
@@ -250,7 +266,7 @@ fn keep_entry(w: &mut Window<'_>, before: Pruned, p: &Frame) -> Pruned
     let mut did = before;
     for u in entry {
         let order = Order {
-            from: p.enter.at,
+            from: enter.at,
             to: u.at,
             gap: 1,
             instr: u.instr,
@@ -260,6 +276,21 @@ fn keep_entry(w: &mut Window<'_>, before: Pruned, p: &Frame) -> Pruned
         did = keep_order(w, did, p, order);
     }
     did
+}
+
+/// The entry block, where Enter is there.
+fn keep_entry(w: &mut Window<'_>, before: Pruned, p: &Frame) -> Pruned
+    requires vars { w.old.vars.now ≡ p.now.vars }
+    requires known { HasVars p.now.vars w.old.store.now.sets }
+    requires live { before ≢ Failed → NoneEmpty w.old.store.now.sets }
+    ensures step { Stepped w.old.vars.now (entry_steps p.now.flag p.now.enter p.now.entry) w.old.store.now w.new.store.now before result }
+    ensures same_reference { w.new.store.ghost_name ≡ w.old.store.ghost_name }
+    ensures vars { w.new.vars ≡ w.old.vars }
+{
+    match p.enter {
+        None => before,
+        Some(op) => keep_after(w, before, p, op),
+    }
 }
 
 /// Where the flag is 1, a copy that surely needs the frame is not after Leave.
@@ -378,7 +409,7 @@ pub(crate) fn keep_frame(w: &mut Window<'_>, p: &Frame) -> Pruned
     ensures vars { w.new.vars ≡ w.old.vars }
 {
     let used = keep_use(w, p);
-    let enter = keep_op(w, used, p, p.enter);
+    let enter = keep_enter(w, used, p);
     let leaves = keep_leaves(w, enter, p);
     let entry = keep_entry(w, leaves, p);
     keep_all_left(w, entry, p)

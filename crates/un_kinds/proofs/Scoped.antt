@@ -1,5 +1,6 @@
 -- The variables of each kind's fields stand in a list that has them all.
-use Rattle.std.proofs.Common.{ℕ, ◌≡◌, true, List, [], ◌∷◌, ◌++◌, get_or, All, Option, ◌∙◌, arith}
+use Rattle.std.proofs.Common.{ℕ, ◌≡◌, true, List, [], ◌∷◌, ◌++◌, get_or, All, Option, None, Some, ◌∙◌, subst, arith}
+use Rattle.std.specs.Option.{ForSome}
 use Rattle.std.proofs.lemmas.List.Elements.{All-nil, All-cons, All-head, All-tail}
 use Rattle.un_base.specs.declared.ids.VarId.{VarId}
 use Rattle.un_prop.specs.Acts.{act_vars, at_vars}
@@ -38,7 +39,7 @@ use Rattle.un_press.specs.Pressures.{LiveVars}
 use Rattle.un_press.specs.declared.live.Span.{Span}
 use Rattle.un_counted.specs.Counted.{RowsVars}
 use Rattle.un_counted.specs.declared.counted.LeastEnd.{LeastEnd}
-use Rattle.un_kinds.specs.Scopes.{IsScope, vars_in, own_var, alt_vars, end_var, op_vars, use_vars, leave_vars}
+use Rattle.un_kinds.specs.Scopes.{IsScope, vars_in, own_var, alt_vars, end_var, op_vars, enter_vars, use_vars, leave_vars}
 use Rattle.un_kinds.specs.Scopes.{rectangle_vars, clobber_vars, item_vars, side_vars, task_vars, span_vars, least_var, row_vars}
 use Rattle.un_kinds.proofs.Rising.{among_own}
 
@@ -153,6 +154,10 @@ op_stands vs o h =
     let p = two vs (own_var o.instr) (own_var o.at) h in
     record { of_instr = one vs o.instr p.0; of_at = one vs o.at p.1 }
 
+enter_stands : (vs : List VarId) (enter : Option FrameOp) → AllAmong vs (enter_vars enter) → ForSome enter (FrameOpVars vs)
+enter_stands vs None h op is = absurd (cc is)
+enter_stands vs (Some enter) h op is = let same : enter ≡ op = cc is in subst (FrameOpVars vs) same (op_stands vs enter h)
+
 use_stands : (vs : List VarId) (u : FrameUse) → AllAmong vs (use_vars u) → FrameUseVars vs u
 use_stands vs u h = let p = two vs (act_vars u.instr) (own_var u.at) h in record { of_instr = p.0; of_at = one vs u.at p.1 }
 
@@ -165,18 +170,18 @@ leave_stands vs l h =
     let q = two vs (vars_in use_vars l.copies) (vars_in own_var l.calls) p.1 in
     record { of_leave = op_stands vs l.leave p.0; of_copies = uses_stand vs l.copies q.0; of_calls = owns vs l.calls q.1 }
 
-pub frame_vars : (vs : List VarId) (flag : VarId) (touch ins : List VarId) (enter : FrameOp) (entry : List FrameUse)
-    (leaves : List FrameLeave) → IsScope vs (own_var flag ++ vars_in own_var touch ++ vars_in own_var ins ++ op_vars enter
+pub frame_vars : (vs : List VarId) (flag : VarId) (touch ins : List VarId) (enter : Option FrameOp) (entry : List FrameUse)
+    (leaves : List FrameLeave) → IsScope vs (own_var flag ++ vars_in own_var touch ++ vars_in own_var ins ++ enter_vars enter
     ++ vars_in use_vars entry ++ vars_in leave_vars leaves) → FrameVars vs flag touch ins enter entry leaves
 frame_vars vs flag touch ins enter entry leaves s =
-    let first : List VarId = own_var flag ++ vars_in own_var touch ++ vars_in own_var ins ++ op_vars enter in
+    let first : List VarId = own_var flag ++ vars_in own_var touch ++ vars_in own_var ins ++ enter_vars enter in
     let p = three vs first (vars_in use_vars entry) (vars_in leave_vars leaves) (scoped vs _ s) in
-    let q = four vs (own_var flag) (vars_in own_var touch) (vars_in own_var ins) (op_vars enter) p.0 in
+    let q = four vs (own_var flag) (vars_in own_var touch) (vars_in own_var ins) (enter_vars enter) p.0 in
     record {
       of_flag = one vs flag q.0;
       of_touch = owns vs touch q.1;
       of_ins = owns vs ins q.2;
-      of_enter = op_stands vs enter q.3;
+      of_enter = enter_stands vs enter q.3;
       of_entry = uses_stand vs entry p.1;
       of_leaves = λ i d lt. leave_stands vs (get_or leaves i d) (each leave_vars vs leaves p.2 i d lt);
     }

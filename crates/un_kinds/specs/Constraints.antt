@@ -45,7 +45,7 @@ pub data Constraint : Type 0 where
   Spaces : Act → Option VarId → List VarId → List (List ℕ) → Constraint
   Same : VarId → List VarId → VarId → Constraint
   Home : Option VarId → List VarId → ℕ → Constraint
-  Frame : VarId → List VarId → List VarId → FrameOp → List FrameUse → List FrameLeave → Constraint
+  Frame : Bool → VarId → List VarId → List VarId → Option FrameOp → List FrameUse → List FrameLeave → Constraint
   Apart : List Temp → Constraint
   Clobber : ℕ → Temp → List ClobberCall → Constraint
   Operands : Side → Side → Constraint
@@ -67,7 +67,7 @@ meets (Zeros instr others) x = zeros_holds instr others x
 meets (Spaces on choice regs sets) x = spaces_holds on choice regs sets x
 meets (Same choice regs to) x = same_holds choice regs to x
 meets (Home choice regs home) x = home_holds choice regs home x
-meets (Frame flag touch ins enter entry leaves) x = frame_holds flag touch ins enter entry leaves x
+meets (Frame whole flag touch ins enter entry leaves) x = frame_holds whole flag touch ins enter entry leaves x
 meets (Apart temps) x = apart_holds temps x
 meets (Clobber mask temp calls) x = clobber_holds mask temp calls x
 meets (Operands a b) x = operands_holds a b x

@@ -48,8 +48,8 @@ cut_with (Same choice regs to) vs s =
     option_and_then (last_cut vs (same_holds choice regs to)) (choice_cut Always (Some choice) (same_can regs to) (places_in regs) s)
 cut_with (Home choice regs home) vs s =
     option_and_then (last_cut vs (home_holds choice regs home)) (choice_cut Always choice (home_can regs home) (places_in regs) s)
-cut_with (Frame flag touch ins enter entry leaves) vs s =
-    option_and_then (last_cut vs (frame_holds flag touch ins enter entry leaves)) (frame_steps flag touch ins enter entry leaves s)
+cut_with (Frame whole flag touch ins enter entry leaves) vs s =
+    option_and_then (last_cut vs (frame_holds whole flag touch ins enter entry leaves)) (frame_steps flag touch ins enter entry leaves s)
 cut_with (Apart temps) vs s = apart_cut vs temps s
 cut_with (Clobber mask temp calls) vs s = clobber_cut vs mask temp calls s
 cut_with (Operands a b) vs s = option_and_then (last_cut vs (operands_holds a b)) (operands_steps a b s)

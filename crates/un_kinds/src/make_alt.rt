@@ -4,7 +4,7 @@ ghost use Rattle.std.specs.Prelude.{◌≡◌, ◌++◌, IfOk, OnOk};
 ghost use Rattle.un_prop.specs.Acts.{act_vars};
 ghost use Rattle.un_alt.specs.Registers.{choice_vars};
 ghost use Rattle.un_kinds.specs.Constraints as constraint;
-ghost use Rattle.un_kinds.specs.Scopes.{IsScope, Makes, vars_in, own_var, op_vars, use_vars, leave_vars};
+ghost use Rattle.un_kinds.specs.Scopes.{IsScope, Makes, vars_in, own_var, enter_vars, use_vars, leave_vars};
 
 use crate::any::AnyProp;
 use crate::vars::{Naming, rising};
@@ -192,14 +192,16 @@ pub fn make_home(
 /// What a Frame asks for, without the list of its variables.
 #[derive(Drop)]
 pub struct FrameFields {
+    /// Whether all of the function is here. A part of it may have the flag set for a use elsewhere.
+    pub is_whole: bool,
     /// The variable of the frame flag: 1 where the code has a frame, else 0.
     pub flag: VarId,
-    /// The variables of the instructions of all copies, each of which needs the frame where it is a Spill or a Reload.
+    /// The variables of the instructions of the copies, each of which needs the frame where it is a Spill or a Reload.
     pub touch: Items<VarId>,
     /// The variables of the registers of the values at blocks' starts, each of which needs the frame where it has a slot.
     pub ins: Items<VarId>,
-    /// Enter, of the entry block.
-    pub enter: FrameOp,
+    /// Enter, where the entry block is here.
+    pub enter: Option<FrameOp>,
     /// What has to issue after Enter where it needs the frame: the copies of the entry block, its calls, and its Leave.
     pub entry: Items<FrameUse>,
     /// Each Leave, with what has to issue before it in its block.
@@ -220,7 +222,7 @@ fn add_needs(vars: &mut Vec<VarId>, f: &FrameFields) -> Result<(), AllocError>
 /// The variables of the frame.
 fn frame_vars(alloc: Global, f: &FrameFields) -> Result<Items<VarId>, AllocError>
     ensures { IfOk result (λ vs. IsScope vs (own_var f.now.flag ++ vars_in own_var f.now.touch ++ vars_in own_var f.now.ins
-        ++ op_vars f.now.enter ++ vars_in use_vars f.now.entry ++ vars_in leave_vars f.now.leaves)) }
+        ++ enter_vars f.now.enter ++ vars_in use_vars f.now.entry ++ vars_in leave_vars f.now.leaves)) }
 {
     let mut vars = Vec::new(alloc);
     add_needs(&mut vars, f)?;
@@ -232,10 +234,11 @@ fn frame_vars(alloc: Global, f: &FrameFields) -> Result<Items<VarId>, AllocError
 
 /// The frame: its flag, Enter and Leave agree with its use.
 pub fn make_frame(alloc: Global, f: FrameFields) -> Result<AnyProp, NoMemory>
-    ensures { IfOk result (Makes (constraint.Frame f.flag f.touch f.ins f.enter f.entry f.leaves)) }
+    ensures { IfOk result (Makes (constraint.Frame f.is_whole f.flag f.touch f.ins f.enter f.entry f.leaves)) }
 {
     let vars = frame_vars(alloc, &f)?;
     let FrameFields {
+        is_whole,
         flag,
         touch,
         ins,
@@ -244,6 +247,7 @@ pub fn make_frame(alloc: Global, f: FrameFields) -> Result<AnyProp, NoMemory>
         leaves,
     } = f;
     let made = Frame {
+        is_whole,
         flag,
         touch,
         ins,

@@ -29,6 +29,7 @@ use Rattle.un_base.specs.declared.ids.VarId.{VarId}
 use Rattle.un_model.specs.declared.model.OpVars.{OpVars}
 use Rattle.un_model.specs.declared.schedule.Issue.{Issue}
 use Rattle.un_isa.specs.declared.packet_counts.Resource.TheVariants.{Control}
+use Rattle.un_isa.specs.PacketCounts.{places_of}
 use Rattle.un_model.specs.ArcLaws.{arc_told}
 use Rattle.un_model.specs.Arcs.{reads_from, own_instr, NeedsGap, block_arcs, blocks_arcs}
 use Rattle.un_model.specs.Arcs.NeedsGap.{ByData, ByMemory}
@@ -48,6 +49,7 @@ use Rattle.un_sites.specs.Crossings.{has_follower, is_after}
 use Rattle.un_sites.specs.Places.{Place}
 use Rattle.un_sites.specs.Rooms.{led_by, reached, waits_by, waiting, is_before, arcs_or, clobbers_of}
 use Rattle.un_post.proofs.Blocks.{blocks, region_places, in_all, past, region_close}
+use Rattle.un_post.proofs.CallEnds.{transfer_last, end_after}
 use Rattle.un_post.proofs.Facts.{Given}
 use Rattle.un_post.proofs.Placing.{place_of}
 use Rattle.un_post.proofs.Packets.{no_room, share, sum_part, whole_taken}
@@ -105,7 +107,7 @@ waits P Q near (a ∷ arcs) from on begin reached start n h =
 
 -- ---- the arcs of a block
 
-arcs_here : (t : Table) (temps : List TempVars) (b n first k : ℕ) (blocks : List ExtBlock) (r : Region)
+pub arcs_here : (t : Table) (temps : List TempVars) (b n first k : ℕ) (blocks : List ExtBlock) (r : Region)
     → Member r (regions b n first blocks) → r.block ≡ b + k
     → (let owner = r.owner in slice_get (blocks_arcs t temps n blocks) k ≡ Some (block_arcs t temps r.number owner.ops))
 arcs_here t temps b n first k [] r m e = elim m [ ]
@@ -142,7 +144,7 @@ call_gap t fit false from to gap call (ByData h) = absurd (cc h)
 call_gap t fit reads from to gap call (ByMemory h) =
     write_gap (own_instr to) gap (ap (λ (i : Option Op). memory_distance i (own_instr to)) (sym call) ∙ h)
 
-start_cycle : (kind : ExtKind) (values : List ℕ) (end : ℕ) (vars : OpVars) → is_in kind ≡ true → cycle_by values end kind vars ≡ 0
+pub start_cycle : (kind : ExtKind) (values : List ℕ) (end : ℕ) (vars : OpVars) → is_in kind ≡ true → cycle_by values end kind vars ≡ 0
 start_cycle In values end vars h = refl
 start_cycle Out values end vars h = absurd (cc h)
 start_cycle (Body so) values end vars h = absurd (cc h)
@@ -150,30 +152,6 @@ start_cycle (End term) values end vars h = absurd (cc h)
 start_cycle (Copy node) values end vars h = absurd (cc h)
 start_cycle Enter values end vars h = absurd (cc h)
 start_cycle Leave values end vars h = absurd (cc h)
-
-less : (a b : ℕ) → a ≤ b → (a ≡ b → ⊥) → a + 1 ≤ b
-less a b le apart = by (nat_eq a b) refl
-  where
-    by : (t : Bool) → nat_eq a b ≡ t → a + 1 ≤ b
-    by true e = absurd (apart (grind (arith, nat_tests, e)))
-    by false e = grind (arith, nat_tests, e, le)
-
--- ---- control transfers
-
-sum_here : (f : Placed → ℕ) (ps : List Placed) (a : Placed) → Member a ps → f a ≤ sum_by f ps
-sum_here f [] a m = elim m [ ]
-sum_here f (p ∷ ps) a (inl e) = let cons = sum_by-cons f p ps in let same : f p ≡ f a = ap f e in omega arith
-sum_here f (p ∷ ps) a (inr m) = let cons = sum_by-cons f p ps in let le = sum_here f ps a m in omega arith
-
-sum_two : (f : Placed → ℕ) (ps : List Placed) (a b : Placed) → Member a ps → Member b ps → (a ≡ b → ⊥) → f a + f b ≤ sum_by f ps
-sum_two f [] a b m n apart = elim m [ ]
-sum_two f (p ∷ ps) a b (inl e) (inl g) apart = absurd (apart (sym e ∙ g))
-sum_two f (p ∷ ps) a b (inl e) (inr n) apart =
-    let cons = sum_by-cons f p ps in let same : f p ≡ f a = ap f e in let le = sum_here f ps b n in omega arith
-sum_two f (p ∷ ps) a b (inr m) (inl g) apart =
-    let cons = sum_by-cons f p ps in let same : f p ≡ f b = ap f g in let le = sum_here f ps a m in omega arith
-sum_two f (p ∷ ps) a b (inr m) (inr n) apart =
-    let cons = sum_by-cons f p ps in let le = sum_two f ps a b m n apart in omega arith
 
 module _ (e : Ext) (o : Options) (x : List ℕ) (given : Given e o x)
     (schedule : IsSchedule (latency_gap e.table) (model_of e o).domains (model_of e o) x (schedule_of (model_of e o) x)) where
@@ -307,107 +285,23 @@ module _ (e : Ext) (o : Options) (x : List ℕ) (given : Given e o x)
             by true e h = grind (arith, nat_tests, e)
             by false e h = absurd (cc h)
 
-    -- a call issues before its block's end
-    inside : (c : Placed) → Member c (region_placed r) → is_call_kind c.op.kind ≡ true → (issue_at x c).cycle < (issue_at x c).end
-    inside c mc call =
-        let v = vars_of c in
-        let latencies = schedule.latencies in
-        let placed = each_member (λ q. IsPlaced (issue_at x q)) (all e o x) c (each_issue e o x IsPlaced latencies.0)
-        (in_all e o x r c mr mc) in
-        let instr = call_instr c.op.kind (value_by x v.instr) call in
-        let there = subst (λ (i : Option Op). IfSome i (IsPlacedAs (issue_at x c).cycle (issue_at x c).end)) instr placed in
-        there.0.1
+    -- its operations stand in their places, and its packets have room
+    placed : (q : Placed) → Member q (region_placed r) → IsPlaced (issue_at x q)
+    placed q mq = let latencies = schedule.latencies in
+        each_member (λ q. IsPlaced (issue_at x q)) (all e o x) q (each_issue e o x IsPlaced latencies.0) (in_all e o x r q mr mq)
+
+    room : (c : ℕ) → sum_by (share e o x given Control r.block c) (region_placed r) ≤ places_of Control
+    room c =
+        let packets = schedule.packets in
+        let fits = (no_room e.table (issues_of (model_of e o) x) r.block c).1 (packets r.block c) Control in
+        let whole = whole_taken e o x given Control r.block c in
+        let part = sum_part (share e o x given Control r.block c) region_placed (blocks e o x) r mr in
+        omega arith
 
     -- a transfer takes the last cycle
-    transfer_last : (q : Placed) → Member q (region_placed r) → (op : Op) → (issue_at x q).instr ≡ Some op → is_transfer op ≡ true
+    last_cycle : (q : Placed) → Member q (region_placed r) → (op : Op) → (issue_at x q).instr ≡ Some op → is_transfer op ≡ true
         → (issue_at x q).cycle + 1 ≡ (issue_at x q).end
-    transfer_last q mq op instr transfer =
-        let latencies = schedule.latencies in
-        let placed = each_member (λ q. IsPlaced (issue_at x q)) (all e o x) q (each_issue e o x IsPlaced latencies.0)
-        (in_all e o x r q mr mq) in
-        let there = subst (λ (i : Option Op). IfSome i (IsPlacedAs (issue_at x q).cycle (issue_at x q).end)) instr placed in
-        subst (IsLast (issue_at x q).cycle (issue_at x q).end) transfer there.1
-
-    -- a transfer issues after a call: a packet has room for one of both
-    transfer_after : (c q : Placed) → Member c (region_placed r) → Member q (region_placed r) → is_call_kind c.op.kind ≡ true
-        → (op : Op) → (issue_at x q).instr ≡ Some op → is_transfer op ≡ true → is_call_kind q.op.kind ≡ false
-        → (issue_at x c).cycle + 1 ≤ (issue_at x q).cycle
-    transfer_after c q mc mq call op instr transfer other = by (nat_eq (issue_at x c).cycle (issue_at x q).cycle) refl
-      where
-        same_end : (issue_at x c).end ≡ (issue_at x q).end
-        same_end = ap (λ (v : VarId). slice_index x v.0) (sym (region_close r c mc) ∙ region_close r q mq)
-
-        crowded : (issue_at x c).cycle ≡ (issue_at x q).cycle → ⊥
-        crowded same =
-            let v = vars_of c in
-            let f = share e o x given Control r.block (issue_at x q).cycle in
-            let packets = schedule.packets in
-            let fits = (no_room e.table (issues_of (model_of e o) x) r.block (issue_at x q).cycle).1 (packets r.block (issue_at x q).cycle)
-            Control in
-            let whole = whole_taken e o x given Control r.block (issue_at x q).cycle in
-            let part = sum_part f region_placed (blocks e o x) r mr in
-            let two = sum_two f (region_placed r) c q mc mq (λ is.
-            (let z : is_call_kind c.op.kind ≡ is_call_kind q.op.kind = ap (λ (p : Placed). is_call_kind p.op.kind) is in
-            let y : true ≡ false = sym call ∙ z ∙ other in cc y)) in
-            let one = takes_control c Call (call_instr c.op.kind (value_by x v.instr) call) refl mc same in
-            let more = takes_control q op instr (transfer_control op transfer) mq refl in
-            omega arith
-          where
-            takes_control : (p : Placed) (op : Op) → (issue_at x p).instr ≡ Some op → is_control op ≡ true
-                → Member p (region_placed r)
-                → (issue_at x p).cycle ≡ (issue_at x q).cycle → 1 ≤ share e o x given Control r.block (issue_at x q).cycle p
-            takes_control p op instr class mp same =
-                let n = (issue_at x q).cycle in
-                let here : (p.block == r.block) ≡ true = eq-eqb p.block r.block (of_region r p mp) in
-                let now : ((issue_at x p).cycle == n) ≡ true = eq-eqb (issue_at x p).cycle n same in
-                let need = control_need e.table given.fit op class in
-                let is : share e o x given Control r.block n p ≡ (needs_by e.table (Some op)).control =
-                ap (λ (b : Bool). if b && ((issue_at x p).cycle == n) then share_of e.table Control (issue_at x p).instr else 0) here
-                ∙ ap (λ (b : Bool). if b then share_of e.table Control (issue_at x p).instr else 0) now
-                ∙ ap (share_of e.table Control) instr in
-                omega arith
-
-        by : (t : Bool) → nat_eq (issue_at x c).cycle (issue_at x q).cycle ≡ t → (issue_at x c).cycle + 1 ≤ (issue_at x q).cycle
-        by true e = absurd (crowded (let is : (issue_at x c).cycle ≡ (issue_at x q).cycle = grind (arith, nat_tests, e) in is))
-        by false e =
-            let lt = inside c mc call in
-            let a = transfer_last q mq op instr transfer in
-            let b = same_end in
-            let apart : (issue_at x c).cycle ≡ (issue_at x q).cycle
-            → ⊥ = λ s. (let t : nat_eq (issue_at x c).cycle (issue_at x q).cycle ≡ true = grind (arith, nat_tests, s) in
-            let z : true ≡ false = sym t ∙ e in cc z) in
-            less (issue_at x c).cycle (issue_at x q).cycle (omega arith) apart
-
-    -- what ends a block issues after its calls
-    end_after : (c q : Placed) → Member c (region_placed r) → Member q (region_placed r) → is_call_kind c.op.kind ≡ true
-        → ends_block q.op.kind ≡ true → (issue_at x c).cycle + 1 ≤ (issue_at x q).cycle
-    end_after c q mc mq call ends = by q.op.kind refl ends
-      where
-        transfer : (term : Term) (op : Op) → q.op.kind ≡ End term → transfer_of term ≡ Some op → is_transfer op ≡ true
-            → (issue_at x c).cycle + 1 ≤ (issue_at x q).cycle
-        transfer term op k t is =
-            let v = vars_of q in
-            let instr : (issue_at x q).instr ≡ Some op = ap (λ (k : ExtKind). instruction_of k (value_by x v.instr)) k ∙ t in
-            transfer_after c q mc mq call op instr is (ap is_call_kind k)
-
-        by : (kind : ExtKind) → q.op.kind ≡ kind → ends_block kind ≡ true → (issue_at x c).cycle + 1 ≤ (issue_at x q).cycle
-        by Out k h =
-            let v = vars_of q in
-            let z : (issue_at x q).cycle ≡ (issue_at x q).end = ap (λ (k : ExtKind). cycle_by x (issue_at x q).end k v) k in
-            let lt = inside c mc call in
-            let same : (issue_at x c).end ≡ (issue_at x q).end = ap (λ (v : VarId). slice_index x v.0)
-            (sym (region_close r c mc) ∙ region_close r q mq) in
-            omega arith
-        by (End Fall) k h = absurd (cc h)
-        by (End (Jump to)) k h = transfer (Jump to) _ k refl refl
-        by (End (Branch pred true to)) k h = transfer (Branch pred true to) _ k refl refl
-        by (End (Branch pred false to)) k h = transfer (Branch pred false to) _ k refl refl
-        by (End (Ret value)) k h = transfer (Ret value) _ k refl refl
-        by In k h = absurd (cc h)
-        by (Body so) k h = absurd (cc h)
-        by (Copy node) k h = absurd (cc h)
-        by Enter k h = absurd (cc h)
-        by Leave k h = absurd (cc h)
+    last_cycle q mq op instr transfer = transfer_last e o x given r placed room q mq op instr transfer
 
     -- what has issued by an operation's cycle, whatever the cycles are
     pub issued_by : (d c : Placed) → Member d (region_placed r) → Member c (region_placed r)
@@ -469,7 +363,7 @@ module _ (e : Ext) (o : Options) (x : List ℕ) (given : Given e o x)
             let later = waits_behind c p.0 mc p.1 both.1 in
             let before = source_inside p.0 p.1 both.0 in
             let same = same_end p.0 p.1 in
-            let last = transfer_last q mq op instr is in
+            let last = last_cycle q mq op instr is in
             omega (arith, later, before, same, last)
 
         ends : (kind : ExtKind) → q.op.kind ≡ kind → ends_block kind ≡ true → has_follower arcs (region_places r) (place_of c) ≡ true
@@ -518,7 +412,7 @@ module _ (e : Ext) (o : Options) (x : List ℕ) (given : Given e o x)
             → ends_block q.op.kind ≡ t
             → (ends_block q.op.kind || (not (q.number == c.number) && has (reached arcs c.number) q.number)) ≡ true
             → (issue_at x c).cycle + 1 ≤ (issue_at x q).cycle
-        second c q mc mq call true k h = end_after c q mc mq call k
+        second c q mc mq call true k h = end_after e o x given r placed room c q mc mq call k
         second c q mc mq call false k h =
             let two = (and_iff (not (q.number == c.number)) (has (reached arcs c.number) q.number)).1
             (subst (λ (t : Bool). (t || (not (q.number == c.number) && has (reached arcs c.number) q.number)) ≡ true) k h) in

@@ -40,7 +40,7 @@ module _ (e : Ext) (o : Options) (x : List ℕ) (given : Given e o x) where
   -- ---- the operand of the first copy of a value
 
   -- what a result carries
-  carried_is : (s : Spot) → Member s (spots e o x) → carried e.blocks s.temp ≡ spot_carried s
+  pub carried_is : (s : Spot) → Member s (spots e o x) → carried e.blocks s.temp ≡ spot_carried s
   carried_is s m = ap (λ (t : Option TempId). unwrap_or t s.temp) (
       ap (λ xs. slice_get xs s.temp.0) (sym (carried_are 0 0 0 e.blocks)) ∙ slice_get-map spot_carried (spots e o x) s.temp.0
       ∙ ap (option_map spot_carried) (spot_here e o x (numbered e o x given) s m))
@@ -124,7 +124,7 @@ module _ (e : Ext) (o : Options) (x : List ℕ) (given : Given e o x) where
 
   -- ---- operands
 
-  agree : Agrees e o x given (λ (r : Read). IsLive (slice_get (the_ranges e o x) r.temp.0)) chosen_of
+  pub agree : Agrees e o x given (λ (r : Read). IsLive (slice_get (the_ranges e o x) r.temp.0)) chosen_of
   agree q j operand m at = let r = reading e o x given q j operand m at in by r (has_choices q.op.kind) refl
     where
       live : (r : Reading e o x given q j operand) → IsLive (slice_get (the_ranges e o x)

@@ -283,7 +283,7 @@ module _ (e : Ext) (o : Options) (x : List ℕ) (given : Given e o x) where
 
   -- ---- all edges
 
-  abbrev edges_at : Region → List Constraint
+  abbrev pub edges_at : Region → List Constraint
   edges_at r = edges_of e.blocks (definers_of (model_of e o)) r.block r.number r.owner (block_vars r.first r.owner)
 
   abbrev out_of : Region → Place
@@ -298,10 +298,10 @@ module _ (e : Ext) (o : Options) (x : List ℕ) (given : Given e o x) where
         ∙ ap (map place_of) (region_parts r en) ∙ map-append place_of (front_of r en) (last_of r en ∷ []))
         ∙ last_append (map place_of (front_of r en)) (place_of (last_of r en))
 
-    number_is : r.block ≡ k
+    pub number_is : r.block ≡ k
     number_is = let h = (region_is 0 0 0 e.blocks k r at).1 in omega arith
 
-    edge_iff : HandsOn e.blocks (schedule_of (model_of e o) x) k r.owner ↔ Met x (edges_at r)
+    pub edge_iff : HandsOn e.blocks (schedule_of (model_of e o) x) k r.owner ↔ Met x (edges_at r)
     unfolding HandsOn HandsOver
     edge_iff = (
       λ h. joined_each _ (λ (l : ℕ). over_edge ds (out_of r) r.owner (slice_get e.blocks l)) (targets_of r.block term)

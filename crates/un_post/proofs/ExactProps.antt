@@ -17,7 +17,7 @@ use Rattle.un_post.specs.Posts.{IsExact}
 use Rattle.un_kinds.specs.declared.any.AnyProp.{AnyProp}
 use Rattle.un_post.proofs.Exact.{exact_in}
 
-map_all : {A B : Type 0} (P : B → Type 0) (f : A → B) (xs : List A) → All P (map f xs) → All (λ (a : A). P (f a)) xs
+pub map_all : {A B : Type 0} (P : B → Type 0) (f : A → B) (xs : List A) → All P (map f xs) → All (λ (a : A). P (f a)) xs
 map_all P f [] h = All-nil (λ a. P (f a))
 map_all P f (x ∷ xs) h =
     All-cons (λ a. P (f a)) x xs (All-head P (f x) (map f xs) h) (map_all P f xs (All-tail P (f x) (map f xs) h))

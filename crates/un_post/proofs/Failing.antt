@@ -36,7 +36,7 @@ module _ (t s : Sets) (below : Below t s) where
   value_more None n h = tt
   value_more (Some v) n h = has_below t s v.0 n below h
 
-  block_more : (n : ℕ) (end : VarId) (ops : List ExtOp) (vars : List OpVars) (arcs : List Arc) (times : Times)
+  pub block_more : (n : ℕ) (end : VarId) (ops : List ExtOp) (vars : List OpVars) (arcs : List Arc) (times : Times)
       → IsRelaxed t n end ops vars arcs times → IsRelaxed s n end ops vars arcs times
   block_more n end ops vars arcs times r = record {
     timing = r.timing;

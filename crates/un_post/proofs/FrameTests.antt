@@ -35,12 +35,12 @@ use Rattle.un_post.proofs.Placing.{place_of, places_are, placed_places}
 use Rattle.un_model.proofs.Regions.{region_is, over_regions, of_region, placed_regions}
 use Rattle.un_post.proofs.Tests.{and_iff, lt_iff}
 
-copy_inner : (k : ExtKind) → is_copy k ≡ true → is_delimiter k ≡ false
+pub copy_inner : (k : ExtKind) → is_copy k ≡ true → is_delimiter k ≡ false
 copy_inner In h = absurd (cc h)
 copy_inner Out h = absurd (cc h)
 copy_inner k h = refl
 
-call_inner : (k : ExtKind) → is_call_kind k ≡ true → is_delimiter k ≡ false
+pub call_inner : (k : ExtKind) → is_call_kind k ≡ true → is_delimiter k ≡ false
 call_inner In h = absurd (cc h)
 call_inner Out h = absurd (cc h)
 call_inner k h = refl
@@ -76,7 +76,7 @@ module _ (e : Ext) (o : Options) (x : List ℕ) (given : Given e o x) where
         subst Q c.2 (h c.0 c.1 zero_block (ap (λ (p : Place). t p.it.kind) c.2 ∙ a.1))),
   )
 
-  kinds_of : (Q : Place → Type 0) (t : ExtKind → Bool) (qs : List Placed) → Each Q (with_kind t (map place_of qs))
+  pub kinds_of : (Q : Place → Type 0) (t : ExtKind → Bool) (qs : List Placed) → Each Q (with_kind t (map place_of qs))
       ↔ ((q : Placed) → Member q qs → t q.op.kind ≡ true → Q (place_of q))
   kinds_of Q t qs = (
     λ h q m k. each_member Q (with_kind t (map place_of qs)) (place_of q) h
@@ -150,7 +150,7 @@ module _ (e : Ext) (o : Options) (x : List ℕ) (given : Given e o x) where
 
   -- ---- the order
 
-  abbrev cycle : Placed → ℕ
+  abbrev pub cycle : Placed → ℕ
   cycle q = (issue_at x q).cycle
 
   pub record Ordered (enter : Placed) : Type 0 where
@@ -165,14 +165,14 @@ module _ (e : Ext) (o : Options) (x : List ℕ) (given : Given e o x) where
   abbrev pub Pair : Placed → Placed → Type 0
   Pair p q = Precedes frame_distance (issue_at x p) (issue_at x q)
 
-  pair_in : (p q : Placed) (s t : Tag) → Pair p q → p.block ≡ q.block → tag_of e o x given p ≡ s → tag_of e o x given q ≡ t
+  pub pair_in : (p q : Placed) (s t : Tag) → Pair p q → p.block ≡ q.block → tag_of e o x given p ≡ s → tag_of e o x given q ≡ t
       → IfSome (gap_of s t) (λ n. cycle p + n ≤ cycle q)
   unfolding Precedes
   pair_in p q s t h b hs ht =
       subst (λ (d : Option ℕ). IfSome d (λ n. cycle p + n ≤ cycle q))
       (tagged (issue_at x p).instr (issue_at x q).instr ∙ ap (λ u. gap_of u (tag_of e o x given q)) hs ∙ ap (gap_of s) ht) (h b)
 
-  pair_of : (p q : Placed) → (p.block ≡ q.block → IfSome (gap_of (tag_of e o x given p) (tag_of e o x given q))
+  pub pair_of : (p q : Placed) → (p.block ≡ q.block → IfSome (gap_of (tag_of e o x given p) (tag_of e o x given q))
       (λ n. cycle p + n ≤ cycle q)) → Pair p q
   unfolding Precedes
   pair_of p q f b = subst (λ (d : Option ℕ). IfSome d (λ n. cycle p + n ≤ cycle q)) (sym (tagged (issue_at x p).instr (issue_at x q).instr))
@@ -292,7 +292,7 @@ module _ (e : Ext) (o : Options) (x : List ℕ) (given : Given e o x) where
     abbrev Passes : FrameUse → Type 0
     Passes u = is_after start x u ≡ true
 
-    pub tests : Ordered one.enter ↔ (in_order (frame_op (place_of one.enter)) (uses_of (in_entry (places_of (model_of e o)))) leaves_of x ≡
+    pub tests : Ordered one.enter ↔ (in_order (Some (frame_op (place_of one.enter))) (uses_of (in_entry (places_of (model_of e o)))) leaves_of x ≡
         true)
     tests = (
       λ r. (and_iff (list_all (is_after start x) (uses_of entry)) (list_all (is_left x) leaves_of)).0 (

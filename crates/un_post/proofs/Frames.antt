@@ -53,12 +53,12 @@ any_true t (y ∷ ys) x (inr m) q = right (t y) (list_any t ys) (any_true t ys x
     right true b e = refl
     right false b e = e
 
-same_bool : (a b : Bool) → (a ≡ true → b ≡ true) → (b ≡ true → a ≡ true) → a ≡ b
+pub same_bool : (a b : Bool) → (a ≡ true → b ≡ true) → (b ≡ true → a ≡ true) → a ≡ b
 same_bool true b f g = sym (f refl)
 same_bool false true f g = g refl
 same_bool false false f g = refl
 
-not_iff : (b : Bool) → (b ≡ false) ↔ (not b ≡ true)
+pub not_iff : (b : Bool) → (b ≡ false) ↔ (not b ≡ true)
 not_iff true = (λ h. absurd (cc h), λ h. absurd (cc h))
 not_iff false = (λ h. refl, λ h. refl)
 
@@ -71,7 +71,7 @@ copy_optional (End term) h = absurd (cc h)
 copy_optional Enter h = absurd (cc h)
 copy_optional Leave h = absurd (cc h)
 
-frame_kind : (k : ExtKind) → is_frame_op k ≡ true → (is_enter k ≡ true) ⊎ (is_leave k ≡ true)
+pub frame_kind : (k : ExtKind) → is_frame_op k ≡ true → (is_enter k ≡ true) ⊎ (is_leave k ≡ true)
 frame_kind Enter h = inl refl
 frame_kind Leave h = inr refl
 frame_kind In h = absurd (cc h)
@@ -80,7 +80,7 @@ frame_kind (Body so) h = absurd (cc h)
 frame_kind (End term) h = absurd (cc h)
 frame_kind (Copy node) h = absurd (cc h)
 
-enter_frame : (k : ExtKind) → is_enter k ≡ true → (is_frame_op k ≡ true) × (is_optional k ≡ true) × (falls k ≡ false)
+pub enter_frame : (k : ExtKind) → is_enter k ≡ true → (is_frame_op k ≡ true) × (is_optional k ≡ true) × (falls k ≡ false)
 enter_frame Enter h = (refl, refl, refl)
 enter_frame In h = absurd (cc h)
 enter_frame Out h = absurd (cc h)
@@ -89,7 +89,7 @@ enter_frame (End term) h = absurd (cc h)
 enter_frame (Copy node) h = absurd (cc h)
 enter_frame Leave h = absurd (cc h)
 
-leave_frame : (k : ExtKind) → is_leave k ≡ true → (is_frame_op k ≡ true) × (is_optional k ≡ true) × (falls k ≡ false)
+pub leave_frame : (k : ExtKind) → is_leave k ≡ true → (is_frame_op k ≡ true) × (is_optional k ≡ true) × (falls k ≡ false)
 leave_frame Leave h = (refl, refl, refl)
 leave_frame In h = absurd (cc h)
 leave_frame Out h = absurd (cc h)
@@ -102,7 +102,7 @@ none_is : (i : Option Op) → is_none i ≡ true → i ≡ None
 none_is None h = refl
 none_is (Some op) h = absurd (cc h)
 
-three : (a b c : Bool) → ((a && b) && c) ≡ true → (a ≡ true) × (b ≡ true) × (c ≡ true)
+pub three : (a b c : Bool) → ((a && b) && c) ≡ true → (a ≡ true) × (b ≡ true) × (c ≡ true)
 three true true c h = (refl, refl, h)
 three true false c h = absurd (cc h)
 three false b c h = absurd (cc h)
@@ -113,7 +113,7 @@ module _ (e : Ext) (o : Options) (x : List ℕ) (given : Given e o x) where
   abbrev copies : List VarId
   copies = map instr_var (with_kind is_copy (places_of (model_of e o)))
 
-  abbrev given_at : Place → List VarId
+  abbrev pub given_at : Place → List VarId
   given_at p = registers_at (definers_of (model_of e o)) p.it.results
 
   abbrev starts : List VarId
@@ -132,7 +132,7 @@ module _ (e : Ext) (o : Options) (x : List ℕ) (given : Given e o x) where
   in_places t q m k = member_filter (λ (p : Place). t p.it.kind) (places_of (model_of e o)) (place_of q)
       (subst (Member (place_of q)) (sym (places_are 0 0 0 e.blocks)) (member_map place_of (all e o x) q m)) k
 
-  access_is : (q : Placed) → Member q (all e o x) → is_copy q.op.kind ≡ true
+  pub access_is : (q : Placed) → Member q (all e o x) → is_copy q.op.kind ≡ true
       → is_access x (instr_var (place_of q)) ≡ is_frame_access (issue_at x q).instr
   access_is q m k =
       let opt = copy_optional q.op.kind k in
@@ -164,7 +164,7 @@ module _ (e : Ext) (o : Options) (x : List ℕ) (given : Given e o x) where
       )
 
   -- what is active without an instruction is given at a block's start
-  start_kind : (s : Spot) → Member s (spots e o x) → (spot_range e o x s).active ≡ true → is_none (spot_range e o x s).instr ≡ true
+  pub start_kind : (s : Spot) → Member s (spots e o x) → (spot_range e o x s).active ≡ true → is_none (spot_range e o x s).instr ≡ true
       → (let q = s.definer in q.op.kind ≡ In)
   start_kind s m act none = let q = s.definer in by q.op.kind refl
     where
@@ -244,7 +244,7 @@ module _ (e : Ext) (o : Options) (x : List ℕ) (given : Given e o x) where
   abbrev leaves : List FrameLeave
   leaves = leaves_of e o x given
 
-  on_is : (q : Placed) → Member q (all e o x) → is_optional q.op.kind ≡ true → falls q.op.kind ≡ false
+  pub on_is : (q : Placed) → Member q (all e o x) → is_optional q.op.kind ≡ true → falls q.op.kind ≡ false
       → is_on x (frame_op (place_of q)) ≡ (issue_at x q).active
   on_is q m opt goes =
       ap (λ (b : Bool). not (nat_eq (slice_index x (var_or (var_if b q.first)).0) 0)) opt
@@ -293,13 +293,13 @@ module _ (e : Ext) (o : Options) (x : List ℕ) (given : Given e o x) where
     ) (iff_then (iff_back (leaves_each e o x given (λ (l : FrameLeave). t (is_on x l.leave) ≡ true)))
         (all_iff (λ (l : FrameLeave). t (is_on x l.leave)) leaves))
 
-    all_on_iff : AllAre true ↔ (all_on (frame_op (place_of one.enter)) leaves x ≡ true)
+    all_on_iff : AllAre true ↔ (all_on (Some (frame_op (place_of one.enter))) leaves x ≡ true)
     all_on_iff = iff_then
         (both (same_test (issue_at x one.enter).active (is_on x (frame_op (place_of one.enter))) (sym enter_on))
         (leaves_pass (λ a. a) true (λ a. (λ h. h, λ h. h))))
         (and_iff (is_on x (frame_op (place_of one.enter))) (list_all (λ (l : FrameLeave). is_on x l.leave) leaves))
 
-    none_on_iff : AllAre false ↔ (none_on (frame_op (place_of one.enter)) leaves x ≡ true)
+    none_on_iff : AllAre false ↔ (none_on (Some (frame_op (place_of one.enter))) leaves x ≡ true)
     none_on_iff = iff_then
         (both (iff_then (not_iff (issue_at x one.enter).active) (same_test (not (issue_at x one.enter).active)
         (not (is_on x (frame_op (place_of one.enter)))) (ap not (sym enter_on)))) (leaves_pass not false not_iff))
@@ -307,7 +307,7 @@ module _ (e : Ext) (o : Options) (x : List ℕ) (given : Given e o x) where
 
     -- the order, where they are active
     order_iff : AllAre true → KeepsFrameOrder (issues_of (model_of e o) x) ↔
-        (in_order (frame_op (place_of one.enter)) (uses_of (in_entry (places_of (model_of e o)))) leaves x ≡ true)
+        (in_order (Some (frame_op (place_of one.enter))) (uses_of (in_entry (places_of (model_of e o)))) leaves x ≡ true)
     order_iff h = iff_then (
       λ f. each_of _ (all e o x) (λ p m. (issues_each e o x given (Precedes frame_distance (issue_at x p))).0
           (each_member _ (all e o x) p ((issues_each e o x given (λ (i : Issue). All (Precedes frame_distance i)
@@ -320,11 +320,11 @@ module _ (e : Ext) (o : Options) (x : List ℕ) (given : Given e o x) where
     -- ---- all of the clause
 
     abbrev on_test : Bool
-    on_test = all_on (frame_op (place_of one.enter)) leaves x && in_order (frame_op (place_of one.enter))
+    on_test = all_on (Some (frame_op (place_of one.enter))) leaves x && in_order (Some (frame_op (place_of one.enter)))
         (uses_of (in_entry (places_of (model_of e o)))) leaves x
 
     abbrev off_test : Bool
-    off_test = none_on (frame_op (place_of one.enter)) leaves x
+    off_test = none_on (Some (frame_op (place_of one.enter))) leaves x
 
     -- by the value of the flag
     by_flag : (f : ℕ) → f ≤ 1 → KeepsFrame f (schedule_of (model_of e o) x)
@@ -358,12 +358,12 @@ module _ (e : Ext) (o : Options) (x : List ℕ) (given : Given e o x) where
           let on = (frames_are true).0 (k.with_frame refl) in
           (and_iff (uses_frame (schedule_of (model_of e o) x)) on_test).0 (
             u refl,
-            (and_iff (all_on (frame_op (place_of one.enter)) leaves x) _).0
+            (and_iff (all_on (Some (frame_op (place_of one.enter))) leaves x) _).0
                 (all_on_iff.0 on, (order_iff on).0 (k.ordered refl)),
           ),
       λ t.
           let a = (and_iff (uses_frame (schedule_of (model_of e o) x)) on_test).1 t in
-          let b = (and_iff (all_on (frame_op (place_of one.enter)) leaves x) _).1 a.1 in
+          let b = (and_iff (all_on (Some (frame_op (place_of one.enter))) leaves x) _).1 a.1 in
           let on = all_on_iff.1 b.0 in
           record {
             used = λ h. refl;

@@ -69,7 +69,7 @@ module _ (e : Ext) (o : Options) (x : List ℕ) (given : Given e o x) where
       by Leave k w = let z : Some r.want ≡ None = sym w ∙ ap (λ (c : ExtKind). slice_get (wants_of e.table e.names e.blocks q.owner c q.op)
           j) k in absurd (cc z)
 
-  agree : Agrees e o x given (λ (r : Read). ReadsHome r (slice_get (the_ranges e o x) r.temp.0)) homes_of
+  pub agree : Agrees e o x given (λ (r : Read). ReadsHome r (slice_get (the_ranges e o x) r.temp.0)) homes_of
   agree q j operand m at =
       let r = reading e o x given q j operand m at in
       by r operand.home refl

@@ -39,7 +39,7 @@ use Rattle.un_prop.specs.Choices.{passes_at}
 use Rattle.un_prec.specs.Reads.{is_late}
 use Rattle.un_alt.specs.Registers.{place_of as chosen_place}
 use Rattle.un_kinds.specs.Constraints.{Constraint, AllMet, Reads, Inside, Last}
-use Rattle.un_sites.specs.Places.{act_by, act_of, time_of, definers_of, definers_at, definer_or}
+use Rattle.un_sites.specs.Places.{act_by, act_of, time_of, definers_of, definers_at, definer_or, asked}
 use Rattle.un_sites.specs.Postings.{over_places, over_operands, issue_by, issues_in, waits_of, waits_by, gaps_of, read_alt, lone_read}
 use Rattle.un_post.proofs.Choices.{value_kind, value_active, lone_value}
 use Rattle.un_post.proofs.Cycles.{cycle_sits}
@@ -48,7 +48,7 @@ use Rattle.un_post.proofs.Placing.{place_of, definer_at}
 use Rattle.un_post.proofs.Facts.{Given, Reading, falls, good_op, all_member, in_domains, acts, numbers, times, definer_is}
 use Rattle.un_post.proofs.Facts.{definer_acts, definer_times, choice_var, no_choice, reading, read_range, read_definer, reader_goes}
 use Rattle.un_post.proofs.Tests.{iff_then, iff_back, both, met_one, eq_iff, le_iff, and_iff}
-use Rattle.un_post.proofs.Whole.{Agrees, operands_each, read_each, issues_each, posted_each}
+use Rattle.un_post.proofs.Whole.{operands_each, read_each, issues_each, posted_each}
 
 -- ---- places in a block
 
@@ -207,15 +207,18 @@ module _ (e : Ext) (o : Options) (x : List ℕ) (given : Given e o x) where
 
   -- ---- waits
 
-  module _ (live : (q : Placed) (j : ℕ) (operand : Operand) → Member q (all e o x) → slice_get q.op.operands j ≡ Some operand
-      → (issue_at x q).active ≡ true
+  -- of an operand that chooses what is there
+  module _ (q : Placed) (j : ℕ) (operand : Operand) (m : Member q (all e o x)) (at : slice_get q.op.operands j ≡ Some operand)
+      (live : (issue_at x q).active ≡ true
       → IsLive (slice_get (the_ranges e o x) (read_of x (issue_at x q) (vars_of q) j operand).temp.0)) where
     -- how long an operation waits for a result
     abbrev waited : Placed → Spot → ℕ
     waited q s = latency_gap e.table (spot_range e o x s).instr (own_instr q.op)
 
-    agree : Agrees e o x given (λ (r : Read). LeavesGap (latency_gap e.table) r (slice_get (the_ranges e o x) r.temp.0)) (waits_of e.table)
-    agree q j operand m at = let r = reading e o x given q j operand m at in by r (has_choices q.op.kind) refl
+    pub waits_at : ((issue_at x q).active ≡ true → LeavesGap (latency_gap e.table) (read_of x (issue_at x q) (vars_of q) j operand)
+        (slice_get (the_ranges e o x) (read_of x (issue_at x q) (vars_of q) j operand).temp.0))
+        ↔ Met x (waits_of e.table (asked (definers_of (model_of e o)) (place_of q) j operand))
+    waits_at = let r = reading e o x given q j operand m at in by r (has_choices q.op.kind) refl
       where
         -- whichever instruction it is
         any : (i : Option Op) → latency_gap e.table i (issue_at x q).instr ≡ latency_gap e.table i (own_instr q.op)
@@ -233,7 +236,7 @@ module _ (e : Ext) (o : Options) (x : List ℕ) (given : Given e o x) where
             let found = read_range e o x given q j operand r in
             iff_then (
               λ f act. subst (λ (n : ℕ). h.from + n ≤ (issue_at x q).cycle) (any h.instr)
-                  (subst (LeavesGap (latency_gap e.table) read) found (f act) (subst IsLive found (live q j operand m at act))),
+                  (subst (LeavesGap (latency_gap e.table) read) found (f act) (subst IsLive found (live act))),
               λ f act. subst (LeavesGap (latency_gap e.table) read) (sym found)
                   (λ on. subst (λ (n : ℕ). h.from + n ≤ (issue_at x q).cycle) (sym (any h.instr)) (f act)),
             ) (where_on (issue_at x q).active (nat_le (h.from + waited q r.spot) (issue_at x q).cycle)
@@ -330,4 +333,5 @@ module _ (e : Ext) (o : Options) (x : List ℕ) (given : Given e o x) where
       ) (iff_back (posted_each e o x given issues_in))))
       (operands_each e o x given (λ (r : Read). LeavesGap (latency_gap e.table) r (slice_get (the_ranges e o x) r.temp.0))
       (waits_of e.table)
-      (agree (read_each e o x given (λ (r : Read). IsLive (slice_get (the_ranges e o x) r.temp.0)) chosen)))
+      (λ q j operand m at. waits_at q j operand m at
+      (read_each e o x given (λ (r : Read). IsLive (slice_get (the_ranges e o x) r.temp.0)) chosen q j operand m at)))

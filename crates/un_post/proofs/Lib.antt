@@ -4,6 +4,7 @@ pub mod Blocks
 pub mod CallAnew
 pub mod CallBefores
 pub mod CallCounts
+pub mod CallEnds
 pub mod CallOrder
 pub mod Choices
 pub mod Congruences
@@ -25,6 +26,7 @@ pub mod FrameTags
 pub mod FrameTests
 pub mod Frames
 pub mod Homes
+pub mod InParts
 pub mod Issued
 pub mod Latencies
 pub mod LeastValues
@@ -42,6 +44,16 @@ pub mod OneEnter
 pub mod Overfull
 pub mod OverfullPins
 pub mod Packets
+pub mod PartArcs
+pub mod PartExact
+pub mod PartFails
+pub mod PartFrame
+pub mod PartItems
+pub mod PartReading
+pub mod PartReady
+pub mod PartRooms
+pub mod PartSingle
+pub mod PartTwos
 pub mod Placing
 pub mod Posted
 pub mod Pressed

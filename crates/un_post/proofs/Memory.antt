@@ -149,13 +149,13 @@ arcs_by_regions t temps b n first (block ∷ bs) = ap (λ xs. block_arcs t temps
     (arcs_by_regions t temps (b + 1) (n + length block.ops) (first + block_count block) bs)
 
 module _ (e : Ext) (o : Options) (x : List ℕ) (given : Given e o x) where
-  abbrev places : List Place
+  abbrev pub places : List Place
   places = places_of (model_of e o)
 
-  abbrev temps : List TempVars
+  abbrev pub temps : List TempVars
   temps = blocks_temps 0 0 e.blocks
 
-  abbrev region_arcs : Region → List Arc
+  abbrev pub region_arcs : Region → List Arc
   region_arcs r = let owner = r.owner in block_arcs e.table temps r.number owner.ops
 
   -- the constraint of an arc between two operations
@@ -204,7 +204,7 @@ module _ (e : Ext) (o : Options) (x : List ℕ) (given : Given e o x) where
   -- ---- where they are met, memory is kept
 
   -- two operations of a block
-  abbrev Kept : Placed → Placed → Type 0
+  abbrev pub Kept : Placed → Placed → Type 0
   Kept p q = Precedes memory_distance (issue_at x p) (issue_at x q)
 
   at_distance : (p q : Placed) → ((n : ℕ) → memory_distance (issue_at x p).instr (issue_at x q).instr ≡ Some n
@@ -223,7 +223,7 @@ module _ (e : Ext) (o : Options) (x : List ℕ) (given : Given e o x) where
       let a = of_region r p mp in let b = of_region s q mq in
       let c : p.block ≡ q.block = same in absurd (omega arith)
 
-  in_block : (r : Region) → Member r (blocks e o x) → Met x (befores_in places (region_arcs r)) → Pairwise Kept (region_placed r)
+  pub in_block : (r : Region) → Member r (blocks e o x) → Met x (befores_in places (region_arcs r)) → Pairwise Kept (region_placed r)
   in_block r mr met = pairwise_at Kept (region_placed r) (λ i j p q lt at bt. at_distance p q (λ n d. far i j p q lt at bt n d))
     where
       far : (i j : ℕ) (p q : Placed) → i < j → slice_get (region_placed r) i ≡ Some p → slice_get (region_placed r) j ≡ Some q → (n : ℕ)

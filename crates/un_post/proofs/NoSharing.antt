@@ -121,7 +121,7 @@ share_iff a b same l m =
     (λ h. k.0 (λ p q r. h p q same r), λ h p q s r. k.1 h p q r)
 
 module _ (e : Ext) (o : Options) (x : List ℕ) (given : Given e o x) where
-  abbrev Share : Spot → Spot → Type 0
+  abbrev pub Share : Spot → Spot → Type 0
   Share s u = ShareNoCycle (spot_range e o x s) (spot_range e o x u)
 
   -- two temporaries of a block
@@ -153,7 +153,7 @@ module _ (e : Ext) (o : Options) (x : List ℕ) (given : Given e o x) where
       (λ h. is ∙ iff.0 h, λ h. iff.1 (sym is ∙ h))
 
   -- all of a block
-  of_block : (r : Region) → Member r (blocks e o x)
+  pub of_block : (r : Region) → Member r (blocks e o x)
       → Pairwise Share (region_spots r) ↔ Met x (apart_in (definers_of (model_of e o)) r.block r.number r.owner (region_vars r))
   of_block r mr =
       let ds = definers_of (model_of e o) in

@@ -46,7 +46,7 @@ one_list (x ∷ y ∷ xs) n = absurd (omega arith)
 
 module _ (e : Ext) (o : Options) (x : List ℕ) (given : Given e o x) where
   -- how many there are in a block
-  entered : (k : ℕ) (r : Region) → slice_get (all_regions e o x given.extended) k ≡ Some r
+  pub entered : (k : ℕ) (r : Region) → slice_get (all_regions e o x given.extended) k ≡ Some r
       → length (filter enters (region_placed r)) ≡ one_if (k == 0)
   entered k r at =
       let own : ExtBlock = r.owner in

@@ -229,7 +229,7 @@ module _ (e : Ext) (o : Options) (x : List ℕ) (given : Given e o x) where
       ap (λ is. taken e.table resource is b c) (issues_are x 0 0 0 e.blocks) ∙ sum_map _ (issue_at x) (all e o x)
       ∙ ap (sum_by (share resource b c)) (placed_regions 0 0 0 e.blocks)
 
-  elsewhere : (resource : Resource) (b c : ℕ) (r : Region) → (r.block ≡ b → ⊥) → sum_by (share resource b c) (region_placed r) ≡ 0
+  pub elsewhere : (resource : Resource) (b c : ℕ) (r : Region) → (r.block ≡ b → ⊥) → sum_by (share resource b c) (region_placed r) ≡ 0
   elsewhere resource b c r other = sum_none (share resource b c) (region_placed r) (λ q m.
       let block = of_region r q m in
       let off : (q.block == b) ≡ false = unequal q.block b (λ same. other (sym block ∙ same)) in
@@ -281,7 +281,7 @@ module _ (e : Ext) (o : Options) (x : List ℕ) (given : Given e o x) where
       let q = member_map_of place_of (region_placed r) a.0 f.0 in
       (q.0, q.1, ap (λ (p : Place). issues_kind p.it.kind) q.2 ∙ f.1, ap (item_of e.table) q.2 ∙ a.2)
 
-  of_block : (r : Region) → Member r (blocks e o x)
+  pub of_block : (r : Region) → Member r (blocks e o x)
       → ((resource : Resource) (c : ℕ) → sum_by (share resource r.block c) (region_placed r) ≤ places_of resource)
       ↔ Met x (packets_in e.table r.block r.number r.owner (region_vars r))
   of_block r mr =

@@ -12,7 +12,7 @@ use Rattle.un_ir.specs.declared.function.Term.TheVariants.{Fall}
 use Rattle.un_ir.specs.declared.extended.ExtKind.{ExtKind}
 use Rattle.un_ir.specs.declared.extended.ExtKind.TheVariants.{In, Out, Body, End, Copy}
 use Rattle.un_ir.specs.declared.extended.Operand.{Operand}
-use Rattle.un_ir.specs.Extended.{is_copy, is_leave}
+use Rattle.un_ir.specs.Extended.{is_copy, is_enter, is_leave}
 use Rattle.un_ir.specs.Linear.{is_in}
 use Rattle.un_model.specs.declared.model.Arc.{Arc}
 use Rattle.un_model.specs.Pairs.{places_from, joined}
@@ -45,12 +45,12 @@ use Rattle.un_sites.specs.Postings.{zeros_by, zeros_of, issue_by, issues_in, cho
 use Rattle.un_sites.specs.Postings.{registers_of, space_by, operand_sets, spaces_of, home_by, homes_of, of_operand, result_by, result_sets}
 use Rattle.un_sites.specs.Postings.{results_in, of_place, last_place, same_by, var_or, instr_var, cycle_var, frame_op, with_kind, copy_use}
 use Rattle.un_ir.specs.Kinds.{is_call_kind, issues_kind}
-use Rattle.un_sites.specs.Postings.{single_use, uses_of, leave_of, in_entry}
+use Rattle.un_sites.specs.Postings.{single_use, uses_of, leave_of, in_entry, enter_among}
 use Rattle.un_sites.specs.Rooms.{user_if, operand_users, place_users, users_of, temp_by, temp_at, temps_in, is_behind, call_at, calls_but}
 use Rattle.un_sites.specs.Rooms.{spared_at, item_of, each_two, operand_side, two_by, one_value, two_at, twos_in}
 use Rattle.un_sites.specs.declared.edges.Accesses.{Accesses}
 use Rattle.un_kinds.specs.Scopes.{vars_of, vars_in, own_var, alt_vars, end_var, op_vars, use_vars, leave_vars, rectangle_vars, clobber_vars}
-use Rattle.un_kinds.specs.Scopes.{item_vars, side_vars, task_vars}
+use Rattle.un_kinds.specs.Scopes.{enter_vars, item_vars, side_vars, task_vars}
 use Rattle.un_root.proofs.Eaches.{each_places}
 use Rattle.un_post.proofs.Meeting.{joined_each}
 
@@ -490,8 +490,8 @@ module _ (n : ℕ) (pos : 0 < n) where
 
       pub frame_are : (flag : VarId) (ps : List Place) (enter : Place) (leaves : List FrameLeave) → flag.0 < n → Each PlaceIn ps
           → PlaceIn enter → Each (λ (l : FrameLeave). Within (leave_vars l)) leaves
-          → IsSound n most (Frame flag (map instr_var (with_kind is_copy ps))
-          (joined (map (λ (p : Place). registers_at ds p.it.results) (with_kind is_in ps))) (frame_op enter) (uses_of (in_entry ps)) leaves)
+          → IsSound n most (Frame true flag (map instr_var (with_kind is_copy ps))
+          (joined (map (λ (p : Place). registers_at ds p.it.results) (with_kind is_in ps))) (Some (frame_op enter)) (uses_of (in_entry ps)) leaves)
       frame_are flag ps enter leaves lt h g l =
           let touch = map instr_var (with_kind is_copy ps) in
           let ins = joined (map (λ (p : Place). registers_at ds p.it.results) (with_kind is_in ps)) in
@@ -511,7 +511,7 @@ module _ (n : ℕ) (pos : 0 < n) where
           let d = op_vars (frame_op enter) in
           let u = vars_in use_vars (uses_of entry) in
           let w = vars_in leave_vars leaves in
-          sound (Frame flag touch ins (frame_op enter) (uses_of entry) leaves)
+          sound (Frame true flag touch ins (Some (frame_op enter)) (uses_of entry) leaves)
           (two_in (a ++ b ++ c ++ d ++ u) w
           (two_in (a ++ b ++ c ++ d) u
           (two_in (a ++ b ++ c) d
@@ -525,6 +525,49 @@ module _ (n : ℕ) (pos : 0 < n) where
           (op_in enter g))
           (each_in use_vars (uses_of entry) uses))
           (each_in leave_vars leaves l))
+          (λ e. cc e) refl
+
+      enter_in : (ps : List Place) → Each PlaceIn ps → Within (enter_vars (enter_among ps))
+      enter_in [] h = tt
+      enter_in (p ∷ ps) h = op_in p h.0
+
+      pub part_frame_are : (flag : VarId) (ps : List Place) → flag.0 < n → Each PlaceIn ps
+          → IsSound n most (Frame false flag (map instr_var (with_kind is_copy ps))
+          (joined (map (λ (p : Place). registers_at ds p.it.results) (with_kind is_in ps))) (enter_among (with_kind is_enter ps)) (uses_of ps)
+          (map (leave_of ps) (with_kind is_leave ps)))
+      part_frame_are flag ps lt h =
+          let touch = map instr_var (with_kind is_copy ps) in
+          let ins = joined (map (λ (p : Place). registers_at ds p.it.results) (with_kind is_in ps)) in
+          let enter = enter_among (with_kind is_enter ps) in
+          let leaves = map (leave_of ps) (with_kind is_leave ps) in
+          let copies = map copy_use (with_kind is_copy ps) in
+          let calls = map single_use (with_kind is_call_kind ps) in
+          let last = map single_use (with_kind is_leave ps) in
+          let uses = each_join (λ (u : FrameUse). Within (use_vars u)) copies (calls ++ last)
+          (uses_in (with_kind is_copy ps) (kind_in is_copy ps h))
+          (each_join (λ (u : FrameUse). Within (use_vars u)) calls last
+          (singles_in (with_kind is_call_kind ps) (kind_in is_call_kind ps h))
+          (singles_in (with_kind is_leave ps) (kind_in is_leave ps h))) in
+          let a = own_var flag in
+          let b = vars_in own_var touch in
+          let c = vars_in own_var ins in
+          let d = enter_vars enter in
+          let u = vars_in use_vars (uses_of ps) in
+          let w = vars_in leave_vars leaves in
+          sound (Frame false flag touch ins enter (uses_of ps) leaves)
+          (two_in (a ++ b ++ c ++ d ++ u) w
+          (two_in (a ++ b ++ c ++ d) u
+          (two_in (a ++ b ++ c) d
+          (two_in (a ++ b) c
+          (two_in a b (lt, tt) (owns_in touch (each_map (λ (v : VarId). v.0 < n) instr_var (with_kind is_copy ps)
+          (each_more PlaceIn (λ (q : Place). (instr_var q).0 < n) (with_kind is_copy ps) (λ q k. or_in q.vars.instr k.instr)
+          (kind_in is_copy ps h)))))
+          (owns_in ins (joined_each (λ (v : VarId). v.0 < n) (λ (p : Place). registers_at ds p.it.results) (with_kind is_in ps)
+          (each_of (λ (p : Place). Within (registers_at ds p.it.results)) (with_kind is_in ps)
+          (λ p m. registers_in ds known p.it.results)))))
+          (enter_in (with_kind is_enter ps) (kind_in is_enter ps h)))
+          (each_in use_vars (uses_of ps) uses))
+          (each_in leave_vars leaves (leaves_are ps h)))
           (λ e. cc e) refl
 
     -- ---- arcs, packets and the limit

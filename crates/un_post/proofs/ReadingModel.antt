@@ -175,22 +175,22 @@ module _ (n : ℕ) (pos : 0 < n) where
 -- ---- a model
 
 module _ (e : Ext) (o : Options) (extended : IsExtended e) where
-  abbrev n : ℕ
+  abbrev pub n : ℕ
   n = blocks_count e.blocks + 1
 
-  pos : 0 < n
+  pub pos : 0 < n
   pos = omega arith
 
-  abbrev most : ℕ
+  abbrev pub most : ℕ
   most = largest_horizon e.blocks
 
   abbrev m : Model
   m = model_of e o
 
-  abbrev the_places : List Place
+  abbrev pub the_places : List Place
   the_places = places_of m
 
-  abbrev the_definers : List Definer
+  abbrev pub the_definers : List Definer
   the_definers = definers_of m
 
   abbrev the_placed : List Placed
@@ -206,7 +206,7 @@ module _ (e : Ext) (o : Options) (extended : IsExtended e) where
   place_known : (q : Placed) → Member q the_placed → PlaceIn n pos (place_of q)
   place_known q mq = place_in n pos q (each_member (InPlaced n) the_placed q in_placed mq)
 
-  places_known : Each (PlaceIn n pos) the_places
+  pub places_known : Each (PlaceIn n pos) the_places
   places_known = each_placed (PlaceIn n pos) place_known
 
   pub spot_known : (s : Spot) → Member s (all_spots the_placed) → (temp_vars s).reg.0 < n
@@ -218,7 +218,7 @@ module _ (e : Ext) (o : Options) (extended : IsExtended e) where
       let le = (each_member (InPlaced n) the_placed q in_placed r.1).1 in
       subst (λ (t : Spot). (temp_vars t).reg.0 < n) u.3 (omega arith)
 
-  definers_known : Each (DefinerIn n pos) the_definers
+  pub definers_known : Each (DefinerIn n pos) the_definers
   definers_known =
       let P : TempVars → Type 0 = λ t. DefinerIn n pos (definer_of the_places t) in
       each_map (DefinerIn n pos) (definer_of the_places) m.temps
@@ -253,7 +253,7 @@ module _ (e : Ext) (o : Options) (extended : IsExtended e) where
       (subst (λ (c : ExtKind). AllZip (IsGoodOperand e.names e.blocks before) q.op.operands
       (wants_of e.table e.names e.blocks q.owner c q.op)) (in_is q.op.kind f) zipped)
 
-  operands_known : (q : Placed) → Member q the_placed → OperandsIn n pos most the_definers definers_known (place_of q)
+  pub operands_known : (q : Placed) → Member q the_placed → OperandsIn n pos most the_definers definers_known (place_of q)
   operands_known q mq =
       let good = each_member (GoodPlaced e (2 ^ 24) extended.good) the_placed q (all_good e (2 ^ 24) extended.good) mq in
       let keeps = good.keeps in
@@ -261,17 +261,17 @@ module _ (e : Ext) (o : Options) (extended : IsExtended e) where
 
   -- ---- block by block
 
-  over_are : {A : Type 0} (P : A → Type 0) (f : ℕ → ℕ → ExtBlock → BlockVars → List A)
+  pub over_are : {A : Type 0} (P : A → Type 0) (f : ℕ → ℕ → ExtBlock → BlockVars → List A)
       → ((r : Region) → Member r (blocks e o []) → Each P (f r.block r.number r.owner (region_vars r)))
       → Each P (over_blocks f 0 0 e.blocks (blocks_vars 0 e.blocks))
   over_are P f h = subst (Each P) (sym (over_regions f 0 0 0 e.blocks))
       (joined_each P (λ (r : Region). f r.block r.number r.owner (region_vars r)) (blocks e o [])
       (each_of (λ (r : Region). Each P (f r.block r.number r.owner (region_vars r))) (blocks e o []) h))
 
-  abbrev places_at : Region → List Place
+  abbrev pub places_at : Region → List Place
   places_at r = block_places r.block r.number r.owner (region_vars r)
 
-  block_known : (r : Region) → Member r (blocks e o []) → Each (PlaceIn n pos) (places_at r)
+  pub block_known : (r : Region) → Member r (blocks e o []) → Each (PlaceIn n pos) (places_at r)
   block_known r mr = subst (Each (PlaceIn n pos)) (sym (places_in r)) (each_map (PlaceIn n pos) place_of (region_placed r)
       (each_of (λ q. PlaceIn n pos (place_of q)) (region_placed r) (λ q mq. place_known q (in_all e o [] r q mr mq))))
 
@@ -288,7 +288,7 @@ module _ (e : Ext) (o : Options) (extended : IsExtended e) where
 
   -- ---- the parts of what is posted
 
-  abbrev IsOk : Constraint → Type 0
+  abbrev pub IsOk : Constraint → Type 0
   IsOk c = IsSound n most c
 
   of_places_ok : Each IsOk (over_places (of_place e.table o.slots the_definers) m)
@@ -296,13 +296,13 @@ module _ (e : Ext) (o : Options) (extended : IsExtended e) where
       (each_placed (λ p. Each IsOk (of_place e.table o.slots the_definers p)) (λ q mq.
       place_are n pos most the_definers definers_known e.table o.slots (place_of q) (operands_known q mq)))
 
-  edges_ok : Each IsOk (over_blocks (edges_of e.blocks the_definers) 0 0 e.blocks (blocks_vars 0 e.blocks))
-  edges_ok = over_are IsOk (edges_of e.blocks the_definers) (λ r mr.
+  pub edges_at : (r : Region) → Member r (blocks e o []) → Each IsOk (edges_of e.blocks the_definers r.block r.number r.owner (region_vars r))
+  edges_at r mr =
       let a = r.owner in
       let out = last_place (places_at r) in
       joined_each IsOk (λ (l : ℕ). over_edge the_definers out a (slice_get e.blocks l)) (targets_of r.block (term_of a.ops))
       (each_of (λ (l : ℕ). Each IsOk (over_edge the_definers out a (slice_get e.blocks l))) (targets_of r.block (term_of a.ops))
-      (λ l ml. edge a out (last_in n pos most the_definers definers_known (places_at r) (block_known r mr)) (slice_get e.blocks l))))
+      (λ l ml. edge a out (last_in n pos most the_definers definers_known (places_at r) (block_known r mr)) (slice_get e.blocks l)))
     where
       edge : (a : ExtBlock) (out : Place) → PlaceIn n pos out → (b : Option ExtBlock) → Each IsOk (over_edge the_definers out a b)
       edge a out g None = tt
@@ -312,6 +312,9 @@ module _ (e : Ext) (o : Options) (extended : IsExtended e) where
           let k = place_over a b j in
           same_are n pos most the_definers definers_known x (slice_get it.operands k) (slice_get v.choices k)
           (get_in n pos v.choices k g.choices))
+
+  edges_ok : Each IsOk (over_blocks (edges_of e.blocks the_definers) 0 0 e.blocks (blocks_vars 0 e.blocks))
+  edges_ok = over_are IsOk (edges_of e.blocks the_definers) edges_at
 
   frame_ok : Each IsOk (frame_of m the_definers the_places)
   frame_ok =
@@ -342,9 +345,9 @@ module _ (e : Ext) (o : Options) (extended : IsExtended e) where
         tt,
       )
 
-  arcs_ok : (r : Region) → Member r (blocks e o []) → (let owner = r.owner in
+  pub arcs_at : (r : Region) → Member r (blocks e o []) → (let owner = r.owner in
       Each IsOk (befores_in the_places (block_arcs e.table (blocks_temps 0 0 e.blocks) r.number owner.ops)))
-  arcs_ok r mr =
+  arcs_at r mr =
       let owner = r.owner in
       let arcs = block_arcs e.table (blocks_temps 0 0 e.blocks) r.number owner.ops in
       each_map IsOk (arc_before the_places) arcs (each_of (λ a. IsOk (arc_before the_places a)) arcs (λ a ma.
@@ -379,7 +382,7 @@ module _ (e : Ext) (o : Options) (extended : IsExtended e) where
       joined_each IsOk (befores_in the_places) m.arcs
       (subst (Each P) (sym (arcs_by_regions e.table (blocks_temps 0 0 e.blocks) 0 0 0 e.blocks))
       (each_map P (λ (r : Region). let owner = r.owner in block_arcs e.table (blocks_temps 0 0 e.blocks) r.number owner.ops) (blocks e o [])
-      (each_of _ (blocks e o []) (λ r mr. arcs_ok r mr))))
+      (each_of _ (blocks e o []) arcs_at)))
 
   aparts_ok : Each IsOk (aparts_of m)
   aparts_ok = over_are IsOk (apart_in the_definers) (λ r mr.
@@ -393,11 +396,14 @@ module _ (e : Ext) (o : Options) (extended : IsExtended e) where
       (each_of (λ t. IsOk (spared_at e.table.clobbered arcs the_definers (places_at r) t)) temps (λ t mt.
       spared_are n pos most the_definers definers_known e.table.clobbered arcs (places_at r) t (block_known r mr))))
 
-  packets_ok : Each IsOk (packets_of m)
-  packets_ok = over_are IsOk (packets_in e.table) (λ r mr.
+  pub packets_at : (r : Region) → Member r (blocks e o []) → Each IsOk (packets_in e.table r.block r.number r.owner (region_vars r))
+  packets_at r mr =
       let owner = r.owner in
       let le = most_of 0 (map own_horizon e.blocks) owner.horizon (member_map own_horizon e.blocks owner (owner_member r mr)) in
-      (packet_are n pos most e.table (places_at r) owner.horizon le (block_known r mr), tt))
+      (packet_are n pos most e.table (places_at r) owner.horizon le (block_known r mr), tt)
+
+  packets_ok : Each IsOk (packets_of m)
+  packets_ok = over_are IsOk (packets_in e.table) packets_at
 
   twos_ok : Each IsOk (twos_of m)
   twos_ok = joined_each IsOk (twos_in o.slots the_definers) the_places
@@ -405,7 +411,7 @@ module _ (e : Ext) (o : Options) (extended : IsExtended e) where
       (λ p g. twos_are n pos most the_definers definers_known o.slots p g) places_known)
 
   -- the end of a block is a variable of the model
-  end_known : (r : Region) → Member r (blocks e o []) → (let vars = region_vars r in vars.end.0 < n)
+  pub end_known : (r : Region) → Member r (blocks e o []) → (let vars = region_vars r in vars.end.0 < n)
   end_known r mr =
       let en = ended e.table e.names e.blocks r (owner_good r mr) in
       let last = last_of r en in

@@ -86,7 +86,7 @@ span_is (Live p) = refl
 span_is (Across p) = refl
 span_is (Counted p) = refl
 
-strong_as : (p : AnyProp) (s : Sets) → strong_of p s → Strong s (constraint_of p)
+pub strong_as : (p : AnyProp) (s : Sets) → strong_of p s → Strong s (constraint_of p)
 strong_as (Before p) s h = h
 strong_as (Reads p) s h = tt
 strong_as (Inside p) s h = h
@@ -107,6 +107,24 @@ strong_as (Live p) s h = tt
 strong_as (Across p) s h = tt
 strong_as (Counted p) s h = tt
 
+-- one that asks for what is sound reads the first variables alone, holds where it reads none, and counts over few cycles
+pub one_reads : (n most : ℕ) (p : AnyProp) (s : Sets) → length s ≡ n → IsSound n most (constraint_of p) → IsTight p → HasVars (scope_of p) s
+one_reads n most p s same sound tight =
+    subst (λ (k : ℕ). All (λ (v : VarId). v.0 < k) (scope_of p)) (sym same)
+    (scope_within n (scope_of p) (vars_of (constraint_of p)) tight sound.within)
+
+pub one_grounded : (n most : ℕ) (p : AnyProp) → IsSound n most (constraint_of p) → IsTight p → IsGrounded p
+one_grounded n most p sound tight none = sound.grounded (scope_none (scope_of p) (vars_of (constraint_of p)) tight none)
+
+pub one_spans : (n most : ℕ) (p : AnyProp) → IsSound n most (constraint_of p) → SpansAtMost most p
+one_spans n most p sound = subst (λ (k : ℕ). k ≤ most) (sym (span_is p)) sound.spans
+
+-- how many variables a model has
+pub model_long : (e : Ext) (o : Options) → length (map values_of (model_of e o).domains) ≡ blocks_count e.blocks + 1
+model_long e o = length-map (domains_of own_horizon e o) values_of
+    ∙ length-append (blocks_domains e o own_horizon true e.blocks) (Range 0 1 ∷ [])
+    ∙ ap (λ (k : ℕ). k + 1) (length-blocks_domains e o true e.blocks)
+
 -- ---- those of a model
 
 module _ (e : Ext) (o : Options) (limit : Option ℕ) (ps : List AnyProp) (extended : IsExtended e)
@@ -115,9 +133,7 @@ module _ (e : Ext) (o : Options) (limit : Option ℕ) (ps : List AnyProp) (exten
   n = blocks_count e.blocks + 1
 
   long : length (map values_of (model_of e o).domains) ≡ n
-  long = length-map (domains_of own_horizon e o) values_of
-      ∙ length-append (blocks_domains e o own_horizon true e.blocks) (Range 0 1 ∷ [])
-      ∙ ap (λ (k : ℕ). k + 1) (length-blocks_domains e o true e.blocks)
+  long = model_long e o
 
   each_tight : Each IsTight ps
   each_tight = each_all IsTight ps tight
@@ -130,15 +146,12 @@ module _ (e : Ext) (o : Options) (limit : Option ℕ) (ps : List AnyProp) (exten
   SoundAt p = IsSound n (largest_horizon e.blocks) (constraint_of p)
 
   reads_one : (s : Sets) (p : AnyProp) → length s ≡ n → Member p ps → HasVars (scope_of p) s
-  reads_one s p same mp =
-      let sound = each_member SoundAt ps p each_sound mp in
-      subst (λ (k : ℕ). All (λ (v : VarId). v.0 < k) (scope_of p)) (sym same)
-      (scope_within n (scope_of p) (vars_of (constraint_of p)) (each_member IsTight ps p each_tight mp) sound.within)
+  reads_one s p same mp = one_reads n (largest_horizon e.blocks) p s same (each_member SoundAt ps p each_sound mp)
+      (each_member IsTight ps p each_tight mp)
 
   grounded_one : (p : AnyProp) → Member p ps → IsGrounded p
-  grounded_one p mp none =
-      let sound = each_member SoundAt ps p each_sound mp in
-      sound.grounded (scope_none (scope_of p) (vars_of (constraint_of p)) (each_member IsTight ps p each_tight mp) none)
+  grounded_one p mp = one_grounded n (largest_horizon e.blocks) p (each_member SoundAt ps p each_sound mp)
+      (each_member IsTight ps p each_tight mp)
 
   reads_each : (s : Sets) → length s ≡ n → All (ReadsFrom s) ps
   reads_each s same = all_each (ReadsFrom s) ps (each_of (ReadsFrom s) ps (λ p mp. reads_one s p same mp))
@@ -148,7 +161,7 @@ module _ (e : Ext) (o : Options) (limit : Option ℕ) (ps : List AnyProp) (exten
 
   spans_each : All (SpansAtMost (largest_horizon e.blocks)) ps
   spans_each = all_each (SpansAtMost (largest_horizon e.blocks)) ps (each_more SoundAt (SpansAtMost (largest_horizon e.blocks)) ps
-      (λ p h. subst (λ (k : ℕ). k ≤ largest_horizon e.blocks) (sym (span_is p)) h.spans) each_sound)
+      (one_spans n (largest_horizon e.blocks)) each_sound)
 
   known_each : (s : Sets) → length s ≡ n → (qs : List AnyProp) → Each (λ (p : AnyProp). Member p ps) qs
       → Known scope_of cut_of any_lawful qs s

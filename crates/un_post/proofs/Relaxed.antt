@@ -79,7 +79,7 @@ placed_vars b owner close n first (op ∷ ops) =
 
 -- ---- what is posted of an operation's place in its block is of cycles and ends
 
-timing_issues : (p : Place) → Each (λ (c : Constraint). is_timing c ≡ true) (issues_in p)
+pub timing_issues : (p : Place) → Each (λ (c : Constraint). is_timing c ≡ true) (issues_in p)
 timing_issues p = let v = p.vars in let it = p.it in by it.kind v.cycle
   where
     by : (kind : ExtKind) (cycle : Option VarId) → Each (λ (c : Constraint). is_timing c ≡ true) (issue_by kind (act_of p) p.end cycle)
@@ -94,13 +94,13 @@ module _ (e : Ext) (o : Options) (x : List ℕ) (given : Given e o x) where
   abbrev cycle_at : Placed → ℕ
   cycle_at q = (issue_at x q).cycle
 
-  abbrev region_times : Region → Times
+  abbrev pub region_times : Region → Times
   region_times r = let owner = r.owner in record {
     end = slice_index x (r.first + ops_count owner.ops);
     cycles = map cycle_at (region_placed r);
   }
 
-  abbrev arcs_in : Region → List Arc
+  abbrev pub arcs_in : Region → List Arc
   arcs_in r = let owner = r.owner in block_arcs e.table (blocks_temps 0 0 e.blocks) r.number owner.ops
 
   -- an operation that issues where it may
@@ -205,16 +205,20 @@ module _ (e : Ext) (o : Options) (x : List ℕ) (given : Given e o x) where
     abbrev Issues : Type 0
     Issues = Each (λ q. Met x (issues_in (place_of q))) (all e o x)
 
-    abbrev RegionRelaxed : Region → Type 0
+    abbrev pub RegionRelaxed : Region → Type 0
     RegionRelaxed r = let owner = r.owner in
         IsRelaxed s r.number (var_at (r.first + ops_count owner.ops)) owner.ops (ops_vars r.first owner.ops) (arcs_in r) (region_times r)
 
-    abbrev RegionKnown : Region → Type 0
+    abbrev pub RegionKnown : Region → Type 0
     RegionKnown r = let owner = r.owner in
         AreKnown (length s) (var_at (r.first + ops_count owner.ops)) owner.ops (ops_vars r.first owner.ops)
 
-    relaxed : (r : Region) → Member r (blocks e o x) → Issues → Met x (befores_in (places_of (model_of e o)) (arcs_in r)) → RegionKnown r
-        → RegionRelaxed r
+    -- its operations issue where they may
+    abbrev IssuesIn : Region → Type 0
+    IssuesIn r = (q : Placed) → Member q (region_placed r) → Met x (issues_in (place_of q))
+
+    pub relaxed : (r : Region) → Member r (blocks e o x) → IssuesIn r → Met x (befores_in (places_of (model_of e o)) (arcs_in r))
+        → RegionKnown r → RegionRelaxed r
     relaxed r mr issues met known =
         let owner = r.owner in
         let places = places_of (model_of e o) in
@@ -227,7 +231,7 @@ module _ (e : Ext) (o : Options) (x : List ℕ) (given : Given e o x) where
                 ∙ length_placed r.block owner (var_at (r.first + ops_count owner.ops)) r.number r.first owner.ops;
             each = λ k op at.
                 let h = here r mr k op at in
-                let t = timed h.it h.member (each_member _ (all e o x) h.it issues h.member) in
+                let t = timed h.it h.member (issues h.it (member_at (region_placed r) k h.it h.stands)) in
                 let stop : (issue_at x h.it).end ≡ end = ap (λ (v : VarId). slice_index x v.0) h.close in
                 subst (λ (p : ExtOp). IsTimed end (slice_index cycles k) p.kind) h.is
                 (subst (λ c. IsTimed end c h.it.op.kind) (sym (cycle_here r k op h))
@@ -287,7 +291,8 @@ module _ (e : Ext) (o : Options) (x : List ℕ) (given : Given e o x) where
         (subst (Each (λ arcs. Met x (befores_in places arcs)))
         (arcs_by_regions e.table (blocks_temps 0 0 e.blocks) 0 0 0 e.blocks) of_arcs) in
         are_relaxed 0 0 0 e.blocks (known_model m (length s) refl (omega (arith, long)))
-        (each_of (λ r. RegionKnown r → RegionRelaxed r) bs (λ r mr known. relaxed r mr issues (each_member _ bs r each mr) known))
+        (each_of (λ r. RegionKnown r → RegionRelaxed r) bs (λ r mr known. relaxed r mr
+        (λ q mq. each_member _ (all e o x) q issues (in_all e o x r q mr mq)) (each_member _ bs r each mr) known))
 
   same_cost : (b n first : ℕ) (bs : List ExtBlock)
       → times_cost bs (map region_times (regions b n first bs)) ≡ blocks_cost x bs (blocks_vars first bs)
@@ -302,13 +307,13 @@ module _ (e : Ext) (o : Options) (limit : Option ℕ) (s : Sets) where
   abbrev m : Model
   m = model_of e o
 
-  abbrev Kept : List Constraint → Type 0
+  abbrev pub Kept : List Constraint → Type 0
   Kept cs = Each (Strong s) cs
 
-  abbrev after_issues : Place → List Constraint
+  abbrev pub after_issues : Place → List Constraint
   after_issues p = joined (map (of_operand e.table o.slots) (asked_by (definers_of m) p)) ++ results_in o.slots (definers_of m) p
 
-  kept_met : (cs : List Constraint) → Each (λ (c : Constraint). is_timing c ≡ true) cs → Kept cs → Met (leasts s) cs
+  pub kept_met : (cs : List Constraint) → Each (λ (c : Constraint). is_timing c ≡ true) cs → Kept cs → Met (leasts s) cs
   kept_met cs timing kept = each_of _ cs (λ c n. strong_met s c (each_member _ cs c timing n) (each_member _ cs c kept n))
 
   timing_befores : Each (λ (c : Constraint). is_timing c ≡ true) (befores_of m)

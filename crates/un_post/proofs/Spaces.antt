@@ -104,7 +104,7 @@ module _ (e : Ext) (o : Options) (x : List ℕ) (given : Given e o x) where
 
   -- ---- operands
 
-  agree : Agrees e o x given (λ (r : Read). ReadsInSpace r (slice_get (the_ranges e o x) r.temp.0)) (spaces_of o.slots)
+  pub agree : Agrees e o x given (λ (r : Read). ReadsInSpace r (slice_get (the_ranges e o x) r.temp.0)) (spaces_of o.slots)
   agree q j operand m at = let r = reading e o x given q j operand m at in by r (is_out q.op.kind) refl
     where
       in_reach : (r : Reading e o x given q j operand) → ReadsInSpace (read_of x (issue_at x q) (vars_of q) j operand)
@@ -146,7 +146,7 @@ module _ (e : Ext) (o : Options) (x : List ℕ) (given : Given e o x) where
 
   -- ---- results
 
-  results_by : (q : Placed) → Member q (all e o x) → ((k : ℕ) (y : TempId) → slice_get q.op.results k ≡ Some y
+  pub results_by : (q : Placed) → Member q (all e o x) → ((k : ℕ) (y : TempId) → slice_get q.op.results k ≡ Some y
       → IsGivenInSpace (spot_range e o x (spot q k y))) ↔ Met x (results_in o.slots (definers_of (model_of e o)) (place_of q))
   results_by q m = by q.op.kind refl
     where

@@ -220,7 +220,7 @@ pub record Ordered (x : List ℕ) (r : Region) (arcs : List Arc) : Type 0 where
       → is_behind arcs (place_of c) (place_of q) ≡ true → (issue_at x c).cycle + 1 ≤ (issue_at x q).cycle
 
 module _ (e : Ext) (o : Options) (x : List ℕ) (given : Given e o x) (clobbered : ℕ) where
-  abbrev Spares : Spot → Type 0
+  abbrev pub Spares : Spot → Type 0
   Spares s = IsSpared clobbered (issues_of (model_of e o) x) (spot_range e o x s)
 
   module _ (r : Region) (s : Spot) (mr : Member r (blocks e o x)) (ms : Member s (region_spots r)) (arcs : List Arc) where
@@ -343,14 +343,14 @@ module _ (e : Ext) (o : Options) (x : List ℕ) (given : Given e o x) (clobbered
         ∙ ap (map (spared_at clobbered own ds (region_places r))) (results_are (region_placed r))
         ∙ map_twice (spared_at clobbered own ds (region_places r)) (λ (s : Spot). s.temp) (region_spots r)
 
-    block_met : Ordered x r own → Each Spares (region_spots r) → Met x
+    pub block_met : Ordered x r own → Each Spares (region_spots r) → Met x
         (spared_in clobbered arcs (definers_of (model_of e o)) r.block r.number r.owner (region_vars r))
     block_met ordered h =
         let P = λ (c : Constraint). meets c x ≡ true in
         subst (Met x) (sym posted) (each_map P posted_at (region_spots r) (each_of _ (region_spots r) (λ s m.
         subst P (sym (posted_is r s mr m own)) (spared_here r s mr m own ordered (each_member Spares (region_spots r) s h m)))))
 
-    met_block : Met x (spared_in clobbered arcs (definers_of (model_of e o)) r.block r.number r.owner (region_vars r))
+    pub met_block : Met x (spared_in clobbered arcs (definers_of (model_of e o)) r.block r.number r.owner (region_vars r))
         → Each Spares (region_spots r)
     met_block h =
         let P = λ (c : Constraint). meets c x ≡ true in

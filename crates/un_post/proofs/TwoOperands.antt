@@ -1,6 +1,6 @@
 -- Each solution meets what is posted of two operands that read different values: both temporaries are there in the cycle before
 -- the operation's, so that they have different registers.
-use Rattle.std.proofs.Common.{ℕ, suc, ◌≡◌, ◌+◌, ◌-◌, ◌<◌, ◌≤◌, Bool, true, false, List, [], ◌∷◌, inl, inr, refl, sym, ap}
+use Rattle.std.proofs.Common.{ℕ, suc, ◌≡◌, ◌⊎◌, ◌+◌, ◌-◌, ◌<◌, ◌≤◌, Bool, true, false, List, [], ◌∷◌, inl, inr, refl, sym, ap}
 use Rattle.std.proofs.Common.{◌∙◌, subst, arith, eq-eqb}
 use Rattle.std.specs.Prelude.{Option, Some, not, is_some, ◌||◌, ◌&&◌, nat_eq, slice_get, slice_index, if◌then◌else◌}
 use Rattle.std.specs.Option.{option_map}
@@ -36,7 +36,7 @@ use Rattle.un_kinds.specs.Constraints.{Constraint, meets, AllMet, Operands}
 use Rattle.un_sites.specs.Places.{Definer, definers_of, definers_at}
 use Rattle.un_sites.specs.Postings.{registers_in, registers_of}
 use Rattle.un_sites.specs.Rooms.{each_two, operand_side, two_by, one_value, two_at, twos_in, twos_of}
-use Rattle.un_post.proofs.Facts.{Given, numbered, good_op, all_member, in_domains, definer_is, choice_var, reading, read_temp, read_definer}
+use Rattle.un_post.proofs.Facts.{Given, Reading, numbered, good_op, all_member, in_domains, definer_is, choice_var, reading, read_temp, read_definer}
 use Rattle.un_post.proofs.Meeting.{Met, passes_get}
 use Rattle.un_post.proofs.Placing.{place_of, definer_at}
 use Rattle.un_post.proofs.RegisterBounds.{register_below}
@@ -84,10 +84,23 @@ unequal a b h = by (nat_eq a b) refl
     by false e = refl
     by true e = absurd (h (grind (arith, nat_tests, e)))
 
-module _ (e : Ext) (o : Options) (x : List ℕ) (given : Given e o x)
-    (solved : IsSchedule (latency_gap e.table) (model_of e o).domains (model_of e o) x (schedule_of (model_of e o) x)) where
+module _ (e : Ext) (o : Options) (x : List ℕ) (given : Given e o x) where
   abbrev ds : List Definer
   ds = definers_of (model_of e o)
+
+  -- what an operation reads is there: active, in its space, ready, and not gone yet
+  pub record IsThere (q : Placed) (j : ℕ) (s : Spot) : Type 0 where
+    pub active : (spot_range e o x s).active ≡ true
+    pub space : InSpace (spot_range e o x s).reg (space_read (issue_at x q).instr j)
+    pub ready : (spot_range e o x s).from + latency_gap e.table (spot_range e o x s).instr (issue_at x q).instr ≤ (issue_at x q).cycle
+    pub last : (issue_at x q).cycle ≤ (spot_range e o x s).last + 1
+
+  -- so is all that it reads, and no two temporaries of its block share a register in a cycle
+  pub record IsKept (q : Placed) : Type 0 where
+    pub there : (j : ℕ) (operand : Operand) (rd : Reading e o x given q j operand) → slice_get q.op.operands j ≡ Some operand
+        → (issue_at x q).active ≡ true → IsThere q j rd.spot
+    pub shares : (s u : Spot) → Member s (spots e o x) → Member u (spots e o x) → s.definer.block ≡ q.block → u.definer.block ≡ q.block
+        → (s ≡ u) ⊎ (ShareNoCycle (spot_range e o x s) (spot_range e o x u) ⊎ ShareNoCycle (spot_range e o x u) (spot_range e o x s))
 
   -- what an operand of an operation of the source holds in the cycle before
   record Held (q : Placed) (j : ℕ) (operand : Operand) : Type 0 where
@@ -106,16 +119,12 @@ module _ (e : Ext) (o : Options) (x : List ℕ) (given : Given e o x)
   abbrev WaitsForAll : Placed → Type 0
   WaitsForAll q = (d : Option Op) → 1 ≤ latency_gap e.table d (issue_at x q).instr
 
-  held : (q : Placed) (j : ℕ) (operand : Operand) → Member q (all e o x) → (issue_at x q).active ≡ true → has_choices q.op.kind ≡ true
-      → WaitsForAll q → slice_get q.op.operands j ≡ Some operand → Held q j operand
-  held q j operand m act c waits at =
+  held : (q : Placed) (j : ℕ) (operand : Operand) → IsKept q → Member q (all e o x) → (issue_at x q).active ≡ true
+      → has_choices q.op.kind ≡ true → WaitsForAll q → slice_get q.op.operands j ≡ Some operand → Held q j operand
+  held q j operand kept m act c waits at =
       let rd = reading e o x given q j operand m at in
       let fits = rd.fits in
-      let d = read_of x (issue_at x q) (vars_of q) j operand in
-      let good = good_read e o x (numbered e o x given) d solved (has_read e o x q j operand m act at) in
-      let one : good.result ≡ rd.spot = one_spot e o x (numbered e o x given) good.result rd.spot good.member rd.member
-      (good.is ∙ ap (λ (t : TempId). t.0) (read_temp e o x given q j operand rd)) in
-      let back : (P : Spot → Type 0) → P good.result → P rd.spot = λ P p. subst P one p in
+      let good = kept.there j operand rd at act in
       let alts = definers_at ds operand.alts in
       let i = slice_index x (q.first + choice_place q.op + j) in
       let here : slice_get alts i ≡ Some (definer_at rd.spot) =
@@ -126,8 +135,7 @@ module _ (e : Ext) (o : Options) (x : List ℕ) (given : Given e o x)
       let bound = register_below e o (in_entry e o x p) p.owner p.op.kind rd.spot.place rd.spot.temp (carried_here p.op rd.spot.temp)
       (slice_index x (p.first + register_place p.op + rd.spot.place)) given.fit
       (register_sits e o x (in_entry e o x p) p rd.spot.place rd.spot.temp (in_domains e o x given p def.0) def.1) in
-      let space = back (λ s. InSpace (spot_range e o x s).reg (space_read (issue_at x q).instr j)) good.space in
-      let fast = waits (spot_range e o x good.result).instr in
+      let fast = waits (spot_range e o x rd.spot).instr in
       let ready = good.ready in
       record {
         spot = rd.spot;
@@ -136,17 +144,16 @@ module _ (e : Ext) (o : Options) (x : List ℕ) (given : Given e o x)
         value = all_member (λ (y : TempId). carried e.blocks y ≡ temp (first_of operand.alts)) operand.alts rd.spot.temp fits.one_value
             (member_at operand.alts (value_by x (slice_get (vars_of q).choices j)) rd.spot.temp rd.at);
         register = slice_get-map (λ (d : Definer). d.reg) alts i ∙ ap (option_map (λ (d : Definer). d.reg)) here;
-        active = back (λ s. (spot_range e o x s).active ≡ true) good.active;
-        allowed = (in_space (spot_range e o x rd.spot).reg o.slots (space_read (issue_at x q).instr j) bound).0 space;
-        from = back (λ s. (spot_range e o x s).from + 1 ≤ (issue_at x q).cycle) (omega arith);
-        last = back (λ s. (issue_at x q).cycle ≤ (spot_range e o x s).last + 1) good.last;
+        active = good.active;
+        allowed = (in_space (spot_range e o x rd.spot).reg o.slots (space_read (issue_at x q).instr j) bound).0 good.space;
+        from = omega (arith, fast, ready);
+        last = good.last;
       }
 
   -- two operands with different values have different registers
-  apart : (q : Placed) (i j : ℕ) (a b : Operand) (h : Held q i a) (k : Held q j b) → one_value a b ≡ false
+  apart : (q : Placed) (i j : ℕ) (a b : Operand) (h : Held q i a) (k : Held q j b) → IsKept q → one_value a b ≡ false
       → (spot_range e o x k.spot).reg ≡ (spot_range e o x h.spot).reg → ⊥
-  apart q i j a b h k other same =
-      let regs = solved.registers in
+  apart q i j a b h k kept other same =
       let s = h.spot in
       let u = k.spot in
       let r = spot_range e o x h.spot in
@@ -159,9 +166,7 @@ module _ (e : Ext) (o : Options) (x : List ℕ) (given : Given e o x)
       let l2 : c ≤ r.last = omega arith in
       let l3 : t.from ≤ c = omega arith in
       let l4 : c ≤ t.last = omega arith in
-      let pairs = pairwise_of_map ShareNoCycle (spot_range e o x) (spots e o x)
-      (subst (Pairwise ShareNoCycle) (ranges_are e o x given) (pairwise_all ShareNoCycle (the_ranges e o x) regs.0)) in
-      elim (pairwise_two (λ s u. ShareNoCycle (spot_range e o x s) (spot_range e o x u)) (spots e o x) s u pairs h.member k.member) [
+      elim (kept.shares s u h.member k.member h.block k.block) [
         | inl is ↦ distinct (ap (λ (s : Spot). carried e.blocks s.temp) is)
         | inr two ↦ elim two [
           | inl share ↦ registers_differ r t c share ra ta block l1 l2 l3 l4 (sym same)
@@ -176,26 +181,26 @@ module _ (e : Ext) (o : Options) (x : List ℕ) (given : Given e o x)
           let z : true ≡ false = sym t ∙ other in
           cc z
 
-  two_met : (q : Placed) (so : SrcOp) → q.op.kind ≡ Body so → Member q (all e o x) → (i j : ℕ) (a b : Operand)
+  two_met : (q : Placed) (so : SrcOp) → IsKept q → q.op.kind ≡ Body so → Member q (all e o x) → (i j : ℕ) (a b : Operand)
       → slice_get q.op.operands i ≡ Some a
       → slice_get q.op.operands j ≡ Some b → one_value a b ≡ false
       → meets (Operands (operand_side o.slots ds so.op i (var_at (q.first + choice_place q.op + i)) a)
       (operand_side o.slots ds so.op j (var_at (q.first + choice_place q.op + j)) b)) x ≡ true
-  two_met q so kind m i j a b at bt other =
+  two_met q so kept kind m i j a b at bt other =
       let v = vars_of q in
       let instr : (issue_at x q).instr ≡ Some so.op = ap (λ (c : ExtKind). instruction_of c (value_by x v.instr)) kind in
       let act : (issue_at x q).active ≡ true = active kind in
       let c : has_choices q.op.kind ≡ true = ap has_choices kind in
       let waits = waits_for_all kind instr in
-      let h = held q i a m act c waits at in
-      let k = held q j b m act c waits bt in
+      let h = held q i a kept m act c waits at in
+      let k = held q j b kept m act c waits bt in
       let f = (spot_range e o x h.spot).reg in
       let g = (spot_range e o x k.spot).reg in
       let sa = operand_side o.slots ds so.op i (var_at (q.first + choice_place q.op + i)) a in
       let sb = operand_side o.slots ds so.op j (var_at (q.first + choice_place q.op + j)) b in
       let ha : has sa.allowed f ≡ true = subst (λ (s : Option Op). has (registers_in o.slots (space_read s i)) f ≡ true) instr h.allowed in
       let hb : has sb.allowed g ≡ true = subst (λ (s : Option Op). has (registers_in o.slots (space_read s j)) g ≡ true) instr k.allowed in
-      let differ = unequal g f (apart q i j a b h k other) in
+      let differ = unequal g f (apart q i j a b h k kept other) in
       let inner : side_passes (λ r. not (nat_eq r f)) sb x ≡ true =
       passes_get (λ (v : VarId). has sb.allowed (slice_index x v.0) && not (nat_eq (slice_index x v.0) f)) sb.regs
       (slice_index x (q.first + choice_place q.op + j)) _ k.register
@@ -218,10 +223,10 @@ module _ (e : Ext) (o : Options) (x : List ℕ) (given : Given e o x)
       active : q.op.kind ≡ Body so → (issue_at x q).active ≡ true
       active k = let v = vars_of q in ap (λ (c : ExtKind). is_delimiter c || is_some (instruction_of c (value_by x v.instr))) k
 
-  two_posted : (q : Placed) → Member q (all e o x) → (i j : ℕ) (a b : Operand) → slice_get q.op.operands i ≡ Some a
+  two_posted : (q : Placed) → IsKept q → Member q (all e o x) → (i j : ℕ) (a b : Operand) → slice_get q.op.operands i ≡ Some a
       → slice_get q.op.operands j ≡ Some b
       → Met x (two_at o.slots ds (place_of q) i a j b)
-  two_posted q m i j a b at bt = by (one_value a b) refl
+  two_posted q kept m i j a b at bt = by (one_value a b) refl
     where
       posted : List Constraint
       posted = two_by o.slots ds q.op.kind i a (slice_get (vars_of q).choices i) j b (slice_get (vars_of q).choices j)
@@ -241,7 +246,7 @@ module _ (e : Ext) (o : Options) (x : List ℕ) (given : Given e o x)
           ap (λ (c : ExtKind). two_by o.slots ds c i a (slice_get (vars_of q).choices i) j b (slice_get (vars_of q).choices j)) k
           ∙ ap (λ (v : Option VarId). two_by o.slots ds (Body so) i a v j b (slice_get (vars_of q).choices j)) va
           ∙ ap (λ (v : Option VarId). two_by o.slots ds (Body so) i a (Some (var_at (q.first + choice_place q.op + i))) j b v) vb in
-          subst (Met x) (sym is) (two_met q so k m i j a b at bt other, tt)
+          subst (Met x) (sym is) (two_met q so kept k m i j a b at bt other, tt)
       of_source other In k = none In k refl
       of_source other Out k = none Out k refl
       of_source other (End term) k = none (End term) k refl
@@ -253,10 +258,37 @@ module _ (e : Ext) (o : Options) (x : List ℕ) (given : Given e o x)
       by true e = subst (λ (t : Bool). Met x (if t then [] else posted)) (sym e) tt
       by false e = subst (λ (t : Bool). Met x (if t then [] else posted)) (sym e) (of_source e q.op.kind refl)
 
-  pub two_operands : AllMet (twos_of (model_of e o)) x
-  two_operands = (posted_each e o x given (twos_in o.slots ds)).1 (each_of _ (all e o x) (λ q m.
+  -- of each two operands of an operation
+  pub twos_of_one : (q : Placed) → Member q (all e o x) → IsKept q → Met x (twos_in o.slots ds (place_of q))
+  twos_of_one q m kept =
       two_each (λ (c : Constraint). meets c x ≡ true) (two_at o.slots ds (place_of q)) 0 q.op.operands (λ i j a b lt at bt.
       let zi : i ≡ 0 + i = omega arith in
       let zj : j ≡ 0 + j = omega arith in
       subst (λ n. Met x (two_at o.slots ds (place_of q) (0 + i) a n b)) zj
-      (subst (λ n. Met x (two_at o.slots ds (place_of q) n a j b)) zi (two_posted q m i j a b at bt)))))
+      (subst (λ n. Met x (two_at o.slots ds (place_of q) n a j b)) zi (two_posted q kept m i j a b at bt)))
+
+  module _ (solved : IsSchedule (latency_gap e.table) (model_of e o).domains (model_of e o) x (schedule_of (model_of e o) x)) where
+    all_kept : (q : Placed) → Member q (all e o x) → IsKept q
+    all_kept q m = record {
+      there = λ j operand rd at act.
+          (let d = read_of x (issue_at x q) (vars_of q) j operand in
+          let good = good_read e o x (numbered e o x given) d solved (has_read e o x q j operand m act at) in
+          let one : good.result ≡ rd.spot = one_spot e o x (numbered e o x given) good.result rd.spot good.member rd.member
+          (good.is ∙ ap (λ (t : TempId). t.0) (read_temp e o x given q j operand rd)) in
+          let back : (P : Spot → Type 0) → P good.result → P rd.spot = λ P p. subst P one p in
+          record {
+            active = back (λ s. (spot_range e o x s).active ≡ true) good.active;
+            space = back (λ s. InSpace (spot_range e o x s).reg (space_read (issue_at x q).instr j)) good.space;
+            ready = back (λ s. (spot_range e o x s).from + latency_gap e.table (spot_range e o x s).instr (issue_at x q).instr
+                ≤ (issue_at x q).cycle) good.ready;
+            last = back (λ s. (issue_at x q).cycle ≤ (spot_range e o x s).last + 1) good.last;
+          });
+      shares = λ s u ms mu bs bu.
+          (let regs = solved.registers in
+          pairwise_two (λ s u. ShareNoCycle (spot_range e o x s) (spot_range e o x u)) (spots e o x) s u
+          (pairwise_of_map ShareNoCycle (spot_range e o x) (spots e o x)
+          (subst (Pairwise ShareNoCycle) (ranges_are e o x given) (pairwise_all ShareNoCycle (the_ranges e o x) regs.0))) ms mu);
+    }
+
+    pub two_operands : AllMet (twos_of (model_of e o)) x
+    two_operands = (posted_each e o x given (twos_in o.slots ds)).1 (each_of _ (all e o x) (λ q m. twos_of_one q m (all_kept q m)))

@@ -72,7 +72,7 @@ no_operands names blocks before [] h = refl
 no_operands names blocks before (y ∷ ys) h = absurd h
 
 module _ (e : Ext) (o : Options) (x : List ℕ) (given : Given e o x) where
-  abbrev IdleAtZero : Placed → Type 0
+  abbrev pub IdleAtZero : Placed → Type 0
   IdleAtZero q = IsIdleAtZero (issue_at x q) × ((k : ℕ) (y : TempId) → slice_get q.op.results k ≡ Some y
       → IsZeroRange (spot_range e o x (spot q k y)))
 
@@ -83,7 +83,7 @@ module _ (e : Ext) (o : Options) (x : List ℕ) (given : Given e o x) where
   abbrev posted_by : Placed → ExtKind → List Constraint
   posted_by q c = zeros_by c (var_if (is_optional c) q.first) (var_if (has_cycle c) (q.first + cycle_place q.op)) (others q)
 
-  zeros_at : (q : Placed) → Member q (all e o x) → IdleAtZero q ↔ Met x (zeros_of (definers_of (model_of e o)) (place_of q))
+  pub zeros_at : (q : Placed) → Member q (all e o x) → IdleAtZero q ↔ Met x (zeros_of (definers_of (model_of e o)) (place_of q))
   zeros_at q m = by q.op.kind refl
     where
       -- an optional operation

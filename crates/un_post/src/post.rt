@@ -42,14 +42,14 @@ pub struct Posted {
 
 /// Propagators, and the place of the limit's among them.
 #[derive(Drop)]
-struct Listed {
-    props: Props,
-    limit_at: usize,
+pub(crate) struct Listed {
+    pub(crate) props: Props,
+    pub(crate) limit_at: usize,
 }
 
 /// The store and the horizon of a model, with propagators for it.
 #[tactic(auto, using(crate::proofs::ModelDomains::domains_are))]
-fn with_store(alloc: Global, m: &Model, listed: Listed) -> Result<Posted, NoMemory>
+pub(crate) fn with_store(alloc: Global, m: &Model, listed: Listed) -> Result<Posted, NoMemory>
     requires model { IsModel m.now }
     requires extended { IsExtended m.now.ext }
     requires fit { IsFit m.now.ext.table }

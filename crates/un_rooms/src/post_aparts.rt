@@ -232,7 +232,7 @@ fn temps_at(alloc: Global, sites: &[Site<'_>], spots: &[Spot<'_>]) -> Result<Ite
 }
 
 /// What is posted of the registers of a block with these operations.
-fn post_apart(props: &mut Props, sites: &[Site<'_>], spots: &[Spot<'_>]) -> Result<(), NoMemory>
+pub fn post_apart(props: &mut Props, sites: &[Site<'_>], spots: &[Spot<'_>]) -> Result<(), NoMemory>
     ensures { OnOk result (props.new ≡ props.old
         ++ constraint.Apart (map (temp_at (definers_in sites.now) (map place_of spots.now)) (temps_in (map place_of spots.now))) ∷ []) }
 {

@@ -105,7 +105,7 @@ fn post_span(
 }
 
 /// What is posted of the calls of a block with these operations and arcs.
-fn post_block(
+pub fn post_block(
     props: &mut Props,
     mask: u64,
     sites: &[Site<'_>],
@@ -122,7 +122,7 @@ fn post_block(
 }
 
 /// The arcs of block `b`; a block that is not there has none.
-pub(crate) fn arcs_at(arcs: &Items<Items<Arc>>, b: u32) -> &[Arc]
+pub fn arcs_at(arcs: &Items<Items<Arc>>, b: u32) -> &[Arc]
     ensures { result.now ≡ arcs_or (slice_get arcs.now b) }
 {
     let i = b as usize;

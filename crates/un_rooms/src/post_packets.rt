@@ -78,7 +78,7 @@ fn block_items(
 }
 
 /// The packets of a block have room for what its operations issue.
-fn post_block(
+pub fn post_block(
     props: &mut Props,
     t: &Table,
     b: u32,

@@ -217,7 +217,7 @@ fn post_twos_in(
 }
 
 /// What is posted of each two operands of one operation after another.
-fn post_twos_at(
+pub fn post_twos_at(
     props: &mut Props,
     slots: u32,
     sites: &[Site<'_>],

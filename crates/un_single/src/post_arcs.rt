@@ -30,7 +30,7 @@ fn post_arc(props: &mut Props, spots: &[Spot<'_>], arc: &Arc) -> Result<(), NoMe
 }
 
 /// What is posted of the arcs of a block.
-fn post_arcs_in(props: &mut Props, spots: &[Spot<'_>], arcs: &[Arc]) -> Result<(), NoMemory>
+pub fn post_arcs_in(props: &mut Props, spots: &[Spot<'_>], arcs: &[Arc]) -> Result<(), NoMemory>
     ensures { OnOk result (props.new ≡ props.old ++ befores_in (map place_of spots.now) arcs.now) }
 {
     for arc in arcs {

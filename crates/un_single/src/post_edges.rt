@@ -177,7 +177,7 @@ fn post_edges_from(
 }
 
 /// What is posted of the edges from block `k`, of which the first operation has the number `n`.
-fn post_block(
+pub fn post_block(
     props: &mut Props,
     sites: &[Site<'_>],
     blocks: &Items<ExtBlock>,

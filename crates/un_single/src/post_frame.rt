@@ -8,7 +8,7 @@ ghost use Rattle.un_kinds.specs.Constraints as constraint;
 ghost use Rattle.un_sites.specs.Places.{Place, registers_at};
 ghost use Rattle.un_ir.specs.Kinds.{is_call_kind};
 ghost use Rattle.un_sites.specs.Postings.{copy_use, cycle_var, frame_by, frame_of, frame_op, in_entry, instr_var};
-ghost use Rattle.un_sites.specs.Postings.{leave_of, leaves_in, single_use, uses_of, with_kind};
+ghost use Rattle.un_sites.specs.Postings.{leave_of, leaves_in, single_use, uses_of, with_kind, enter_among, part_frame};
 ghost use Rattle.un_sites.specs.Sites.{place_of, definers_in};
 
 use std::alloc::{AllocError, Global};
@@ -248,7 +248,7 @@ fn fields(
     spots: &[Spot<'_>],
     enter: &Spot<'_>,
 ) -> Result<FrameFields, NoMemory>
-    ensures { IfOk result (λ f. constraint.Frame f.flag f.touch f.ins f.enter f.entry f.leaves
+    ensures { IfOk result (λ f. constraint.Frame f.is_whole f.flag f.touch f.ins f.enter f.entry f.leaves
         ≡ frame_by m.now (definers_in sites.now) (map place_of spots.now) (place_of enter.now)) }
 {
     let touch = touches(alloc, spots)?;
@@ -256,10 +256,11 @@ fn fields(
     let entry = entry_uses(alloc, spots)?;
     let leaves = all_leaves(alloc, m)?;
     Ok(FrameFields {
+        is_whole: true,
         flag: m.flag,
         touch,
         ins,
-        enter: frame_op(enter),
+        enter: Some(frame_op(enter)),
         entry,
         leaves,
     })
@@ -296,4 +297,64 @@ pub fn post_frame(
         }
     }
     Ok(())
+}
+
+/// The Enter among these operations, where there is one.
+fn enter_among(spots: &[Spot<'_>]) -> Option<FrameOp>
+    ensures { result ≡ enter_among (with_kind is_enter (map place_of spots.now)) }
+{
+    for p in spots {
+        if p.it.kind.is_enter() {
+            return Some(frame_op(p));
+        }
+    }
+    None
+}
+
+/// The Leaves among these operations of a block.
+fn leaves_among(alloc: Global, spots: &[Spot<'_>]) -> Result<Items<FrameLeave>, AllocError>
+    ensures { IfOk result (λ leaves. leaves ≡ map (leave_of (map place_of spots.now)) (with_kind is_leave (map place_of spots.now))) }
+{
+    let mut leaves = Items::new(alloc);
+    add_leaves_of(&mut leaves, alloc, spots)?;
+    Ok(leaves)
+}
+
+/// What uses the frame in a block with these operations.
+fn part_fields(
+    alloc: Global,
+    m: &Model,
+    sites: &[Site<'_>],
+    spots: &[Spot<'_>],
+) -> Result<FrameFields, NoMemory>
+    ensures { IfOk result (λ f. constraint.Frame f.is_whole f.flag f.touch f.ins f.enter f.entry f.leaves
+        ≡ part_frame m.now (definers_in sites.now) (map place_of spots.now)) }
+{
+    let touch = touches(alloc, spots)?;
+    let ins = taken(alloc, sites, spots)?;
+    let entry = uses_of(alloc, spots)?;
+    let leaves = leaves_among(alloc, spots)?;
+    Ok(FrameFields {
+        is_whole: false,
+        flag: m.flag,
+        touch,
+        ins,
+        enter: enter_among(spots),
+        entry,
+        leaves,
+    })
+}
+
+/// The frame in a block with these operations: its flag may be set for a use in another block.
+pub fn post_part_frame(
+    props: &mut Props,
+    m: &Model,
+    sites: &[Site<'_>],
+    spots: &[Spot<'_>],
+) -> Result<(), NoMemory>
+    ensures { OnOk result (props.new ≡ props.old ++ part_frame m.now (definers_in sites.now) (map place_of spots.now) ∷ []) }
+{
+    let f = part_fields(props.alloc(), m, sites, spots)?;
+    let made = make_frame(props.alloc(), f)?;
+    props.push(made)
 }

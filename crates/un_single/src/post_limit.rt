@@ -1,9 +1,9 @@
 //! What is posted of the cost.
 
-ghost use Rattle.std.specs.Prelude.{◌≡◌, ◌++◌, IfOk, OnOk};
+ghost use Rattle.std.specs.Prelude.{◌≡◌, [], ◌∷◌, ◌++◌, IfOk, OnOk};
 ghost use Rattle.un_kinds.specs.Constraints.{Below};
 ghost use Rattle.un_kinds.specs.Scopes.{Makes};
-ghost use Rattle.un_sites.specs.Postings.{ends_by, limit_of};
+ghost use Rattle.un_sites.specs.Postings.{ends_by, limit_of, part_limit, weighted};
 
 use std::alloc::Global;
 use un_base::memory_error::NoMemory;
@@ -50,6 +50,41 @@ pub fn post_limit(props: &mut Props, m: &Model, limit: Option<u64>) -> Result<()
         None => Ok(()),
         Some(most) => {
             let made = limit_prop(props.alloc(), m, most)?;
+            props.push(made)
+        }
+    }
+}
+
+/// The propagator by which the cost of one block is less than a limit.
+fn part_prop(
+    alloc: Global,
+    block: &ExtBlock,
+    vars: &BlockVars,
+    limit: u64,
+) -> Result<AnyProp, NoMemory>
+    ensures { IfOk result (Makes (Below (weighted block.now vars.now ∷ []) limit)) }
+{
+    let mut ends = Items::new(alloc);
+    ends.push(Weighted {
+        end: vars.end,
+        freq: block.freq,
+    })?;
+    make_below(alloc, ends, limit)
+}
+
+/// The cost of one block is less than a limit, where there is one.
+pub fn post_part_limit(
+    props: &mut Props,
+    block: &ExtBlock,
+    vars: &BlockVars,
+    limit: Option<u64>,
+) -> Result<(), NoMemory>
+    ensures { OnOk result (props.new ≡ props.old ++ part_limit block.now vars.now limit) }
+{
+    match limit {
+        None => Ok(()),
+        Some(most) => {
+            let made = part_prop(props.alloc(), block, vars, most)?;
             props.push(made)
         }
     }

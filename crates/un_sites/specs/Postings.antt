@@ -222,12 +222,23 @@ abbrev pub in_entry : List Place → List Place
 in_entry ps = filter (λ (p : Place). p.block == 0) ps
 
 abbrev pub frame_by : Model → List Definer → List Place → Place → Constraint
-frame_by m ds ps enter = Frame m.flag (map instr_var (with_kind is_copy ps))
-    (joined (map (λ (p : Place). registers_at ds p.it.results) (with_kind is_in ps))) (frame_op enter) (uses_of (in_entry ps))
+frame_by m ds ps enter = Frame true m.flag (map instr_var (with_kind is_copy ps))
+    (joined (map (λ (p : Place). registers_at ds p.it.results) (with_kind is_in ps))) (Some (frame_op enter)) (uses_of (in_entry ps))
     (over_blocks leaves_in 0 0 m.ext.blocks m.blocks)
 
 abbrev pub frame_of : Model → List Definer → List Place → List Constraint
 frame_of m ds ps = map (frame_by m ds ps) (with_kind is_enter ps)
+
+-- the Enter among these operations, where there is one
+abbrev pub enter_among : List Place → Option FrameOp
+enter_among [] = None
+enter_among (p ∷ ps) = Some (frame_op p)
+
+-- the frame in a block with these operations: its flag may be set for a use in another block
+abbrev pub part_frame : Model → List Definer → List Place → Constraint
+part_frame m ds ps = Frame false m.flag (map instr_var (with_kind is_copy ps))
+    (joined (map (λ (p : Place). registers_at ds p.it.results) (with_kind is_in ps))) (enter_among (with_kind is_enter ps)) (uses_of ps)
+    (map (leave_of ps) (with_kind is_leave ps))
 
 -- ---- the cost
 
@@ -242,6 +253,11 @@ ends_by (block ∷ blocks) (vars ∷ more) = weighted block vars ∷ ends_by blo
 abbrev pub limit_of : Model → Option ℕ → List Constraint
 limit_of m None = []
 limit_of m (Some limit) = Below (ends_by m.ext.blocks m.blocks) limit ∷ []
+
+-- a limit on the cost of one block
+abbrev pub part_limit : ExtBlock → BlockVars → Option ℕ → List Constraint
+part_limit block vars None = []
+part_limit block vars (Some limit) = Below (weighted block vars ∷ []) limit ∷ []
 
 -- ---- all of a model, under a limit or none
 

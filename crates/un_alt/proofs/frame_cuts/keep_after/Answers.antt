@@ -26,7 +26,7 @@ use Rattle.un_alt.specs.FrameCuts.{early_test}
 use Rattle.un_alt.specs.FrameCuts.{order_cut, entry_cut, copy_cut, call_cut, left_cut, use_steps, op_steps, order_steps, OrderVars}
 use Rattle.un_alt.proofs.Orders.{late_is, going}
 use Rattle.un_alt.proofs.Idle.{entry_idle}
-use Rattle.un_alt.proofs.frame_cuts.keep_entry.Goals as goal
+use Rattle.un_alt.proofs.frame_cuts.keep_after.Goals as goal
 
 pub is_only-requires-clause-there : goal.is_only-requires-clause-there
 is_only-requires-clause-there c = let p = c.args.p.now in has_among p.vars p.flag c.args.w.now.store.now.sets p.among.of_flag
@@ -36,8 +36,8 @@ pub returns-then-not-is_only-clause-step : goal.returns-then-not-is_only-clause-
 returns-then-not-is_only-clause-step c =
     let p = c.args.p.now in
     let s = c.args.w.now.store.now in
-    stepped_same c.args.w.now.vars.now (round (entry_cut p.flag p.enter) p.entry) s c.args.before (λ live. entry_idle p.vars p.flag s.sets
-    c.requires.known live (sym c.is_only.ensures ∙ c.if-not-is_only.true) p.enter p.entry p.among.of_enter p.among.of_entry)
+    stepped_same c.args.w.now.vars.now (round (entry_cut p.flag c.args.enter) p.entry) s c.args.before (λ live. entry_idle p.vars p.flag s.sets
+    c.requires.known live (sym c.is_only.ensures ∙ c.if-not-is_only.true) c.args.enter p.entry c.requires.of_enter p.among.of_entry)
 
 pub keep_order-did-requires-clause-of_order : goal.keep_order-did-requires-clause-of_order
 keep_order-did-requires-clause-of_order c =
@@ -47,7 +47,7 @@ keep_order-did-requires-clause-of_order c =
     let lt : i < length p.entry = (let long = ap length lent in omega (arith, c.loop-u-test.true, long)) in
     let d : FrameUse = record { instr = Always; least = 0; most = 0; at = record { 0 = 0 } } in
     let u = subst (λ (us : List FrameUse). FrameUseVars p.vars (get_or us i d)) (sym lent) (p.among.of_entry i d lt) in
-    record { of_from = p.among.of_enter.of_at; of_to = u.of_at; of_instr = u.of_instr }
+    record { of_from = c.requires.of_enter.of_at; of_to = u.of_at; of_instr = u.of_instr }
 
 pub loop-u-preserved : goal.loop-u-preserved
 loop-u-preserved c =
@@ -59,9 +59,9 @@ loop-u-preserved c =
     let inv = c.loop-u.invariant in
     let did = c.keep_order-did in
     record {
-      step = each_next c.args.w.now.vars.now c.loop-u.w.vars.now (entry_cut p.flag p.enter) p.entry i d c.args.w.now.store.now
+      step = each_next c.args.w.now.vars.now c.loop-u.w.vars.now (entry_cut p.flag c.args.enter) p.entry i d c.args.w.now.store.now
           c.loop-u.w.store.now did.new.w.store.now c.args.before c.loop-u.did did.result (ap (λ r. r.now) inv.vars) lt inv.step
-          (subst (λ (us : List FrameUse). Stepped c.loop-u.w.vars.now ((entry_cut p.flag p.enter) (get_or us i d)) c.loop-u.w.store.now
+          (subst (λ (us : List FrameUse). Stepped c.loop-u.w.vars.now ((entry_cut p.flag c.args.enter) (get_or us i d)) c.loop-u.w.store.now
           did.new.w.store.now c.loop-u.did did.result) lent did.ensures.step);
       same_reference = did.ensures.same_reference ∙ inv.same_reference;
       vars = did.ensures.vars ∙ inv.vars;
@@ -71,5 +71,5 @@ pub returns-clause-step : goal.returns-clause-step
 returns-clause-step c =
     let p = c.args.p.now in
     let long = ap length c.as_slice-entry.ensures in
-    each_end c.args.w.now.vars.now (entry_cut p.flag p.enter) p.entry c.loop-u.u-index c.args.w.now.store.now c.loop-u.w.store.now
+    each_end c.args.w.now.vars.now (entry_cut p.flag c.args.enter) p.entry c.loop-u.u-index c.args.w.now.store.now c.loop-u.w.store.now
     c.args.before c.loop-u.did (omega (arith, c.loop-u-test.false, long)) c.loop-u.invariant.step
