@@ -143,12 +143,25 @@ static ROWS: &[u8] =
 |&?line 8 frame 1032:bad 8\
 |&?line 20 tree 0:bad 20\
 |&?line 20 tree 200000:bad 22\
-|&?line 20 tree 200001:bad 20\
-|&?line 21 S:bad 21\
-|&?line 21 P -:bad 21\
+|&?line 20 tree 200001:bad 22\
+|&?line 20 tree 400000:bad 22\
+|&?line 20 tree 400001:bad 20\
+|&?line 21 S:yes\
+|&?line 21 S :bad 21\
+|&?line 21 P -:yes\
+|&?line 21 P 0:yes\
+|&?line 21 P 18446744073709551615:yes\
+|&?line 21 P 18446744073709551616:bad 21\
+|&?line 21 P 01:bad 21\
+|&?line 21 P:bad 21\
+|&?line 21 P :bad 21\
+|&?line 21 P-:bad 21\
+|&?line 21 P - :bad 21\
+|&?line 21 P  1:bad 21\
+|&?line 21 M 36 37 0:bad 21\
 |# Trees of many nodes, each an open leaf.\
 |unison 1\nfunction f\nmodel regs all slots 64 nodes 200000\nanswer spent\ntree 200000\n?many 199999:bad 200005|&?many 200000:yes|&?many 200001:bad 200006\
-|unison 2\nfunction f\nmodel regs all slots 256 nodes 200000\nanswer spent\ntree 200000\n?many 199999:bad 200005|&?many 200000:yes|&?many 200001:bad 200006";
+|unison 2\nfunction f\nmodel regs all slots 256 nodes 200000\nanswer spent\ntree 400000\n?many 399999:bad 400005|&?many 400000:yes|&?many 400001:bad 400006";
 
 /// Texts of the numbers of a solution alone, each with how many they are, or its first bad line: made by another program from the rules.
 static NUMBERS: &[u8] = b"# One list, with its lines broken in every way.\

@@ -168,16 +168,17 @@ fn leave(alloc: Global) -> Result<FrameLeave, AllocError> {
     })
 }
 
-/// A frame with these Leaves.
-fn frame_of(alloc: Global, leaves: Items<FrameLeave>) -> Result<AnyProp, NoMemory> {
+/// A frame with these Leaves, of a whole function with this Enter, or of a part without one.
+fn frame_of(
+    alloc: Global,
+    enter: Option<FrameOp>,
+    leaves: Items<FrameLeave>,
+) -> Result<AnyProp, NoMemory> {
     let touch = list(alloc, &[VarId(1)])?;
     let ins = list(alloc, &[VarId(2)])?;
     let entry = alone(alloc, copy())?;
-    let enter = FrameOp {
-        instr: VarId(3),
-        at: VarId(4),
-    };
     let fields = FrameFields {
+        is_whole: enter.is_some(),
         flag: VarId(0),
         touch,
         ins,
@@ -188,11 +189,20 @@ fn frame_of(alloc: Global, leaves: Items<FrameLeave>) -> Result<AnyProp, NoMemor
     make_frame(alloc, fields)
 }
 
-/// A frame with one Leave.
-fn frame(alloc: Global) -> Result<AnyProp, NoMemory> {
+/// A frame with one Leave, and with this Enter, where there is one.
+fn frame(alloc: Global, enter: Option<FrameOp>) -> Result<AnyProp, NoMemory> {
     let leave = leave(alloc)?;
     let leaves = alone(alloc, leave)?;
-    frame_of(alloc, leaves)
+    frame_of(alloc, enter, leaves)
+}
+
+/// A frame of a whole function.
+fn whole_frame(alloc: Global) -> Result<AnyProp, NoMemory> {
+    let enter = FrameOp {
+        instr: VarId(3),
+        at: VarId(4),
+    };
+    frame(alloc, Some(enter))
 }
 
 /// A user that is always active and has no choice.
@@ -441,7 +451,8 @@ pub(crate) fn prop(alloc: Global, kind: &[u8]) -> Result<AnyProp, NoMemory> {
         Some(b's') => spaces(alloc),
         Some(b'm') => moves(alloc),
         Some(b'h') => home(alloc),
-        Some(b'f') => frame(alloc),
+        Some(b'f') => whole_frame(alloc),
+        Some(b'u') => frame(alloc, None),
         Some(b't') => two(alloc),
         Some(b'v') => values(alloc),
         Some(b'o') => operands(alloc),

@@ -147,6 +147,12 @@ frame 1 1,2 36 1 3,4 2,9 1 5,8 3>same
 frame 0,1 2,3 4 0,1 0,1 2,3 0,1 5 3>1 2,3 4 1 0,1 2,3 1 5 3
 # There is no cycle after Enter's.
 frame 1 2 4 1 9 2,3 1 9 3>failed
+# The same of a part of a function without Enter, whose sets stay as they are: a set flag needs no use there.
+unentered 1 1 4 0 9 2 1 5 3>same
+unentered 1 2 4 0,1 9 2,6 0,1 5 3>1 2 4 0,1 9 2 1 5 3
+unentered 0,1 2 4 0 9 2 1 5 3>1 2 4 0 9 2 1 5 3
+unentered 0 1 4 0,1 9 2 0,1 5 3>0 1 4 0,1 9 2 0 5 3
+unentered 0 2 4 0 9 2 0 5 3>failed
 # Sets of the time, activity and register of a temporary and the time of its user, for two temporaries.
 # The first surely has its register from 2 to 4, and the second starts by 3 and ends after 4.
 two 1,2 1 5 4,6 1,3 1 5,7 5,9>1,2 1 5 4,6 1,3 1 7 5,9

@@ -20,13 +20,32 @@ B 60 7/B 23 1/O/B 99 4/O/C/O/C/>nodes 8
 B 122 5/B 45 0/O/O/C/>nodes 5
 C/O/>nodes 2
 B 4294967295 4294967295/O/O/>nodes 3
+# Splits and parts, also where they cannot stand
+S/P -/C/>nodes 3
+B 60 7/S/P 3/C/P -/B 61 2/C/C/O/>nodes 9
+P -/>nodes 1
+O/P 3/>nodes 2
+O/S/C/>nodes 3
+P 0/P 18446744073709551615/>nodes 2
 # no node
 >nodes 0
 # lines that are spelled otherwise
 B 0 1/O/B 00 1/>bad 3
-P -/>bad 1
-O/P 3/>bad 2
-O/S/C/>bad 2
+S />bad 1
+s/>bad 1
+P/>bad 1
+P />bad 1
+P-/>bad 1
+P - />bad 1
+P --/>bad 1
+P  1/>bad 1
+P 1 />bad 1
+P 01/>bad 1
+P +1/>bad 1
+P -1/>bad 1
+P 1 2/>bad 1
+P 18446744073709551616/>bad 1
+B 60 7/S/P 3/C/p -/C/O/>bad 5
 B 4294967296 0/O/O/>bad 1
 B 0 4294967296/O/O/>bad 1
 B 1/>bad 1

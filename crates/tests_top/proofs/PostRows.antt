@@ -142,7 +142,7 @@ worked_postings : postings_of model (Some 20) ≡
     let copy : FrameUse = record { instr = on 2; least = 2; most = 3; at = v 3 } in
     let left : FrameUse = record { instr = on 10; least = 1; most = 1; at = v 11 } in
     let end : FrameLeave = record { leave = leave; copies = copy ∷ []; calls = [] } in
-    Frame (v 26) (vs (2 ∷ 18 ∷ [])) (vs (0 ∷ 1 ∷ 16 ∷ 17 ∷ [])) enter (copy ∷ left ∷ []) (end ∷ []))
+    Frame true (v 26) (vs (2 ∷ 18 ∷ [])) (vs (0 ∷ 1 ∷ 16 ∷ 17 ∷ [])) (Some enter) (copy ∷ left ∷ []) (end ∷ []))
     -- the cost: ten times the entry's end, and the other one
     ∷ (let often : Weighted = record { end = v 15; freq = 10 } in
     let once : Weighted = record { end = v 25; freq = 1 } in

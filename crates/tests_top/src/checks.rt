@@ -204,6 +204,7 @@ fn put_cause(out: &mut Vec<u8>, cause: NoCause) -> Result<(), NoMemory> {
         NoCause::Cost => put_text(out, b"no cost"),
         NoCause::Listing => put_text(out, b"no listing"),
         NoCause::Strict(place) => put_part(out, b"no strict ", place),
+        NoCause::Split(place) => put_part(out, b"no split ", place),
         NoCause::Alive(place) => put_part(out, b"no alive ", place),
         NoCause::Closed(place) => put_part(out, b"no closed ", place),
         NoCause::Mirror(place) => put_part(out, b"no mirror ", place),

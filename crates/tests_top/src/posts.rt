@@ -10,13 +10,16 @@ ghost use Rattle.un_post.specs.Posts.{ReadsFrom, SpansAtMost};
 
 use crate::rows::{number_at, wrong_row};
 use std::alloc::Global;
+use un_base::ids::BlockId;
 use un_base::memory_error::NoMemory;
+use un_base::numbers::number;
 use un_domains::store::Store;
 use un_ir::text::{put_number, put_text};
 use un_isa::reg::SLOTS;
 use un_isa::table::hexagon;
 use un_kinds::any::AnyProp;
 use un_model::model::{Model, Options};
+use un_post::part::post_block;
 use un_post::post::{Posted, post};
 use un_problem::problem::{default_options, model};
 use un_prop::propagator::Scratch;
@@ -24,7 +27,8 @@ use un_prop::run::{Fix, run_all};
 use un_reader::read::read_function;
 
 /// Functions, and how many propagators of each kind are posted without a limit, in the order of `kind`, under all registers and 64 slots;
-/// then how rounds end under so many registers, or under all; and how many propagators of two operands there are.
+/// or for all blocks, each by itself; then how rounds end under so many registers, or under all; and how many propagators of two operands
+/// there are.
 static POSTS: &[u8] = b"func dot %x %y %n
 block entry freq 1
   %s = imm #0
@@ -41,6 +45,7 @@ block loop freq 100
 block exit freq 1
   ret %s
 ?posts: 107 102 2 0 107 93 194 48 13 1 3 147 2 3 3 3 0\
+|&?parts: 107 102 2 0 107 93 194 48 13 3 3 147 2 3 0 0 0\
 |func s
 block e freq 1
   %a = imm #1
@@ -202,6 +207,32 @@ pub(crate) fn put_counts(
 ) -> Result<(), NoMemory> {
     let posted = posted(alloc, function, &default_options())?;
     put_kinds(out, posted.props.as_slice())
+}
+
+/// How many propagators of a kind are posted for the blocks of a model, each by itself.
+fn count_in_parts(alloc: Global, m: &Model, kind: usize) -> Result<u64, NoMemory>
+    requires model { IsModel m.now }
+    requires extended { IsExtended m.now.ext }
+    requires fit { IsFit m.now.ext.table }
+    requires options { AreOptions m.now.options }
+{
+    let mut found: u64 = 0;
+    for k in 0..m.ext.blocks.len() {
+        let b = BlockId(number(k)?);
+        let posted = post_block(alloc, m, b, None)?;
+        found = found.saturating_add(count(posted.props.as_slice(), kind));
+    }
+    Ok(found)
+}
+
+/// Appends how many propagators of each kind are posted for the blocks of a function, each by itself.
+pub(crate) fn put_parts(alloc: Global, out: &mut Vec<u8>, function: &[u8]) -> Result<(), NoMemory> {
+    let m = model_under(alloc, function, &default_options())?;
+    for kind in 0..17 {
+        put_text(out, b" ")?;
+        put_number(out, count_in_parts(alloc, &m, kind)?)?;
+    }
+    Ok(())
 }
 
 /// Appends how many propagators of two operands are posted for a function.

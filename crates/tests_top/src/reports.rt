@@ -60,7 +60,19 @@ static CHECKS: &[u8] = b"# As it is, and with one thing changed after another.\
 |?check x:usage 1>>usage: word 1\n\
 |# Reports without code.\
 |func f\nblock e freq 1\n  ret\n---\nunison 1\nfunction f\nmodel regs 5 slots 64 nodes 1\nanswer spent\ntree 1\nO\nend\n?check:done>yes spent\n>\
-|func f\nblock e freq 1\n  ret\n---\nunison 1\nfunction f\nmodel regs 5 slots 64 nodes 3\nanswer spent\ntree 1\nO\nend\n?check:no>no spent\n>";
+|func f\nblock e freq 1\n  ret\n---\nunison 1\nfunction f\nmodel regs 5 slots 64 nodes 3\nanswer spent\ntree 1\nO\nend\n?check:no>no spent\n>\
+|# A Split where the flag is single, whose one part has nothing at all; and one where the flag is not single.\
+|func two\nblock e freq 1\n  %a = imm #1\n  %b = imm #2\n  %c = add %a, %b\n  ret %c\n---\nunison 2\nfunction two\nmodel regs 1 slots 64 nodes 2000\nanswer infeasible\ntree 5\nB 153 0\nS\nP -\nC\nC\nend\n?check:done>yes infeasible\n>\
+|func two\nblock e freq 1\n  %a = imm #1\n  %b = imm #2\n  %c = add %a, %b\n  ret %c\n---\nunison 2\nfunction two\nmodel regs 1 slots 64 nodes 2000\nanswer infeasible\ntree 3\nS\nP -\nC\nend\n?check:no>no split 0\n>\
+|# Numbers come to no limit where there is none; a part is not left out, nor begun by another line, nor left open.\
+|func two\nblock e freq 1\n  %a = imm #1\n  %b = imm #2\n  %c = add %a, %b\n  ret %c\n---\nunison 2\nfunction two\nmodel regs 1 slots 64 nodes 2000\nanswer infeasible\ntree 5\nB 153 0\nS\nP 9\nC\nC\nend\n?check:no>no split 1\n>\
+|func two\nblock e freq 1\n  %a = imm #1\n  %b = imm #2\n  %c = add %a, %b\n  ret %c\n---\nunison 2\nfunction two\nmodel regs 1 slots 64 nodes 2000\nanswer infeasible\ntree 4\nB 153 0\nS\nC\nC\nend\n?check:no>no split 2\n>\
+|func two\nblock e freq 1\n  %a = imm #1\n  %b = imm #2\n  %c = add %a, %b\n  ret %c\n---\nunison 2\nfunction two\nmodel regs 1 slots 64 nodes 2000\nanswer infeasible\ntree 5\nB 153 0\nS\nP -\nO\nC\nend\n?check:no>no split 3\n>\
+|func two\nblock e freq 1\n  %a = imm #1\n  %b = imm #2\n  %c = add %a, %b\n  ret %c\n---\nunison 2\nfunction two\nmodel regs 1 slots 64 nodes 2000\nanswer infeasible\ntree 2\nP -\nC\nend\n?check:no>no split 0\n>\
+|# A part does not branch on the flag.\
+|func two\nblock e freq 1\n  %a = imm #1\n  %b = imm #2\n  %c = add %a, %b\n  ret %c\n---\nunison 2\nfunction two\nmodel regs 1 slots 64 nodes 2000\nanswer infeasible\ntree 7\nB 153 0\nS\nP -\nB 153 0\nC\nC\nC\nend\n?check:no>no strict 3\n>\
+|# Version 1 has no Splits.\
+|func two\nblock e freq 1\n  %a = imm #1\n  %b = imm #2\n  %c = add %a, %b\n  ret %c\n---\nunison 1\nfunction two\nmodel regs 1 slots 64 nodes 2000\nanswer infeasible\ntree 3\nS\nP -\nC\nend\n?check:bad 6>>bad report: line 6\n";
 
 /// Appends a line so often as stands behind `^`, and once where nothing does.
 fn put_often(out: &mut Vec<u8>, text: &[u8]) -> Result<(), NoMemory> {

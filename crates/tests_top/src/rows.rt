@@ -6,7 +6,7 @@ use crate::ends::put_ends;
 use crate::firsts::put_first;
 use crate::hostile::put_deep;
 use crate::least_rows::put_kept;
-use crate::posts::{put_counts, put_end, put_operands};
+use crate::posts::{put_counts, put_end, put_operands, put_parts};
 use crate::reports::put_altered;
 use crate::runs::{put_numbers, put_run};
 use crate::searches::{put_solved, put_tried};
@@ -36,9 +36,9 @@ pub(crate) fn number_at(text: &[u8], k: usize) -> u64 {
     number(text.split(|b| *b == b' ').nth(k).unwrap_or(&[]))
 }
 
-/// Appends the answer to a question about a text: of what is posted, of how rounds end, of propagators of two operands, of the least ends
-/// of blocks, of rows of them, of a search, of an attempt, of a first solution, of the check of a tree or of its lines, of a run over an
-/// altered report, one of a version or a deep tree, of the numbers of a report, or else of a run by words.
+/// Appends the answer to a question about a text: of what is posted, for the whole or for its blocks, of how rounds end, of propagators of
+/// two operands, of the least ends of blocks, of rows of them, of a search, of an attempt, of a first solution, of the check of a tree or of
+/// its lines, of a run over an altered report, one of a version or a deep tree, of the numbers of a report, or else of a run by words.
 fn put_answer(
     alloc: Global,
     out: &mut Vec<u8>,
@@ -48,6 +48,9 @@ fn put_answer(
     // (a run, whose first letter a search has too)
     if question.starts_with(b"steps") {
         return put_run(alloc, out, text, question);
+    }
+    if question.starts_with(b"parts") {
+        return put_parts(alloc, out, text);
     }
     match question.first() {
         Some(b'p') => put_counts(alloc, out, text),

@@ -331,6 +331,48 @@ end
 ?steps --check:bad steps 11>>bad steps: line 11
 |&?steps --check --counts:done>yes steps
 >\
+|# A tree with a Split has no log, whatever is given as one.\
+|func two
+block e freq 1
+  %a = imm #1
+  %b = imm #2
+  %c = add %a, %b
+  ret %c
+---
+unison 2
+function two
+model regs 1 slots 64 nodes 2000
+answer infeasible
+tree 5
+B 153 0
+S
+P -
+C
+C
+end
+?steps:no log 1>>no log: node 1
+|&?steps --counts:no log 1>>no log: node 1
+|func two
+block e freq 1
+  %a = imm #1
+  %b = imm #2
+  %c = add %a, %b
+  ret %c
+---
+unison 2
+function two
+model regs 1 slots 64 nodes 2000
+answer infeasible
+tree 5
+B 153 0
+S
+P -
+C
+C
+end
+---
+.
+?steps --check:no log 1>>no log: node 1
 |# A report that is not accepted has no log.\
 |func two
 block e freq 1

@@ -68,6 +68,7 @@ fn put_told(out: &mut Vec<u8>, verdict: TreeVerdict) -> Result<(), NoMemory> {
     match verdict {
         TreeVerdict::Yes { least, open_leaves } => put_yes(out, least, open_leaves),
         TreeVerdict::NotStrict(place) => put_part(out, b"strict ", u64::from(place)),
+        TreeVerdict::NotSplit(place) => put_part(out, b"split ", u64::from(place)),
         TreeVerdict::NotAlive(place) => put_part(out, b"alive ", u64::from(place)),
         TreeVerdict::NotClosed(place) => put_part(out, b"closed ", u64::from(place)),
         TreeVerdict::Short => put_text(out, b"short"),

@@ -14,7 +14,7 @@ use Rattle.std.proofs.lemmas.List.Sums.{sum_by-cons}
 use Rattle.std.proofs.lemmas.Map.Keys.{ge_from_not_lt}
 use Rattle.un_domains.specs.Sets.{Sets}
 use Rattle.un_tree.specs.declared.node.Node.{Node}
-use Rattle.un_tree.specs.declared.node.Node.TheVariants.{Branch, Closed, Open}
+use Rattle.un_tree.specs.declared.node.Node.TheVariants.{Branch, Closed, Open, Split, Part}
 use Rattle.un_branching.specs.declared.growth.Entry.{Entry}
 use Rattle.un_branching.specs.declared.growth.Link.{Link}
 use Rattle.un_branching.specs.declared.open_nodes.OpenNode.{OpenNode}
@@ -44,6 +44,8 @@ abbrev pub adds : ℕ → ℕ → Node → ℕ
 adds j i Open = one j i
 adds j i Closed = 0
 adds j i (Branch v x) = 0
+adds j i Split = 0
+adds j i (Part number) = 0
 
 module _ (fix : Sets → Option Sets) (bound : Sets → ℕ → Type 0) (good : List ℕ → Type 0) where
   pub record Adds (i : ℕ) (link : Link) (b : Sets) (old new : List OpenNode) (m : Node) : Type 1 where

@@ -10,9 +10,8 @@ use Rattle.un_domains.specs.Order.{Below}
 use Rattle.un_domains.specs.OrderLaws.{Below-refl, Below-trans}
 use Rattle.un_domains.specs.declared.side.Side.{Side}
 use Rattle.un_domains.specs.declared.side.Side.TheVariants.{AtMost, Above}
-use Rattle.un_tree.specs.Waits.{Whole}
 use Rattle.un_tree.specs.declared.node.Node.{Node}
-use Rattle.un_tree.specs.declared.node.Node.TheVariants.{Branch, Closed, Open}
+use Rattle.un_tree.specs.declared.node.Node.TheVariants.{Branch, Closed, Open, Split, Part}
 use Rattle.un_branching.specs.declared.growth.Entry.{Entry}
 use Rattle.un_branching.specs.declared.growth.Link.{Link}
 use Rattle.un_branching.specs.declared.open_nodes.OpenNode.{OpenNode}
@@ -39,40 +38,56 @@ abbrev pub is_branch : Node → ℕ
 is_branch Open = 0
 is_branch Closed = 0
 is_branch (Branch v x) = 1
+is_branch Split = 0
+is_branch (Part number) = 0
 
 pub open_is : (m : Node) → 0 < is_open m → m ≡ Open
 open_is Open h = refl
 open_is Closed h = absurd (omega (arith, h))
 open_is (Branch v x) h = absurd (omega (arith, h))
+open_is Split h = absurd (omega (arith, h))
+open_is (Part number) h = absurd (omega (arith, h))
 
 leaf_no_branch : (m : Node) → IsLeaf m → is_branch m ≡ 0
 leaf_no_branch Open h = refl
 leaf_no_branch Closed h = refl
 leaf_no_branch (Branch v x) h = absurd h
+leaf_no_branch Split h = absurd h
+leaf_no_branch (Part number) h = absurd h
 
 pub before_from : (bound : Sets → ℕ → Type 0) (m : Node) (b : Sets) (m' : Node) (c : Sets)
     → (is_branch m ≡ 1 → is_open m' ≡ 1 → (n k : ℕ) → bound b n → bound c k → n ≤ k) → IsBefore bound m b m' c
 before_from bound (Branch v x) b (Branch w y) c h = tt
 before_from bound (Branch v x) b Closed c h = tt
 before_from bound (Branch v x) b Open c h = h refl refl
+before_from bound (Branch v x) b Split c h = tt
+before_from bound (Branch v x) b (Part number) c h = tt
 before_from bound Closed b m' c h = tt
 before_from bound Open b m' c h = tt
+before_from bound Split b m' c h = tt
+before_from bound (Part number) b m' c h = tt
 
 before_at : (bound : Sets → ℕ → Type 0) (m : Node) (b : Sets) (m' : Node) (c : Sets) → IsBefore bound m b m' c → is_branch m ≡ 1 → m'
     ≡ Open → (n k : ℕ) → bound b n → bound c k → n ≤ k
 before_at bound (Branch v x) b m' c h is e = subst (λ (o : Node). IsBefore bound (Branch v x) b o c) e h
 before_at bound Closed b m' c h is e = absurd (omega (arith, is))
 before_at bound Open b m' c h is e = absurd (omega (arith, is))
+before_at bound Split b m' c h is e = absurd (omega (arith, is))
+before_at bound (Part number) b m' c h is e = absurd (omega (arith, is))
 
 adds_self : (i : ℕ) (m : Node) → adds i i m ≡ is_open m
 adds_self i Open = one_same i
 adds_self i Closed = refl
 adds_self i (Branch v x) = refl
+adds_self i Split = refl
+adds_self i (Part number) = refl
 
 adds_other : (j i : ℕ) (m : Node) → j ≢ i → adds j i m ≡ 0
 adds_other j i Open h = one_other j i h
 adds_other j i Closed h = refl
 adds_other j i (Branch v x) h = refl
+adds_other j i Split h = refl
+adds_other j i (Part number) h = refl
 
 -- a fact on a node and its box, at equals
 at_same : (P : Node → Sets → Type 0) (m m' : Node) (b b' : Sets) → m' ≡ m → b' ≡ b → P m b → P m' b'
@@ -179,7 +194,7 @@ module _ (root : Sets) (fix : Sets → Option Sets) (bound : Sets → ℕ → Ty
     once_k = t.tree.grown.once k t.own.there
 
     fresh : (j : ℕ) → n ≤ j → count j t.tree.grown.order ≡ 0
-    fresh j far = listed_fresh (node_of es) (next_of es) box n j 0 t.tree.grown.order (Whole root ∷ []) (omega (
+    fresh j far = listed_fresh (node_of es) (next_of es) box n j 0 t.tree.grown.order (root ∷ []) (omega (
       arith,
       far,
     )) t.tree.grown.listed
@@ -203,7 +218,7 @@ module _ (root : Sets) (fix : Sets → Option Sets) (bound : Sets → ℕ → Ty
               one_other j (n + 1) (λ e. omega (arith, e, lt)),
             )
 
-    listed' : Listed (node_of New) (next_of New) box' (n + 2) 0 (put k (n + 1) n t.tree.grown.order) (Whole root ∷ [])
+    listed' : Listed (node_of New) (next_of New) box' (n + 2) 0 (put k (n + 1) n t.tree.grown.order) (root ∷ [])
     listed' = listed_put (node_of es) (next_of es) box n (node_of New) (next_of New) box' k
         (λ j lt apart. (node_old j lt apart, ap (λ (e : Entry). e.next) (new_old es k v x l r t.own.there j lt apart)))
         (λ j lt. boxes_old box n (to AtMost) (to Above) j lt)
@@ -211,7 +226,7 @@ module _ (root : Sets) (fix : Sets → Option Sets) (bound : Sets → ℕ → Ty
         (ap (λ (e : Entry). e.next) (new_left es k v x l r t.own.there)) (ap (λ (e : Entry). e.next) (new_right es k v x l r t.own.there))
         (boxes_left box n (to AtMost) (to Above)) (boxes_right box n (to AtMost) (to Above)) (subst IsLeaf (sym node_right) right.leaf)
         (subst IsLeaf (sym node_left) left.leaf)
-        0 t.tree.grown.order (Whole root ∷ []) once_k t.tree.grown.listed
+        0 t.tree.grown.order (root ∷ []) once_k t.tree.grown.listed
 
     below' : (j : ℕ) → j < length New → j < n + 2
     below' j lt = omega (arith, lt, long')
@@ -220,7 +235,7 @@ module _ (root : Sets) (fix : Sets → Option Sets) (bound : Sets → ℕ → Ty
     grown' = record {
       box = box';
       order = put k (n + 1) n t.tree.grown.order;
-      listed = subst (λ (m : ℕ). Listed (node_of New) (next_of New) box' m 0 (put k (n + 1) n t.tree.grown.order) (Whole root ∷ []))
+      listed = subst (λ (m : ℕ). Listed (node_of New) (next_of New) box' m 0 (put k (n + 1) n t.tree.grown.order) (root ∷ []))
           (sym long') listed';
       long = length-put k (n + 1) n t.tree.grown.order once_k ∙ (ap (λ (m : ℕ). m + 2) t.tree.grown.long ∙ sym long');
       once = λ i lt. once' i (below' i lt);

@@ -5,11 +5,11 @@ use Rattle.un_domains.specs.Sets.{Sets}
 use Rattle.un_base.specs.declared.ids.VarId.{VarId}
 use Rattle.un_domains.specs.declared.side.Side.{Side}
 use Rattle.un_tree.specs.declared.node.Node.{Node}
-use Rattle.un_tree.specs.declared.node.Node.TheVariants.{Branch, Closed, Open}
+use Rattle.un_tree.specs.declared.node.Node.TheVariants.{Branch, Closed, Open, Split, Part}
 use Rattle.un_branching.specs.declared.growth.Entry.{Entry}
 use Rattle.un_branching.specs.declared.growth.Link.{Link}
-use Rattle.un_tree.specs.Boxes.{Splits, decided}
-use Rattle.un_tree.specs.Waits.{Waiting, Whole, after}
+use Rattle.un_domains.specs.declared.side.Side.TheVariants.{AtMost, Above}
+use Rattle.un_tree.specs.Boxes.{Splits, decided, half}
 
 abbrev pub blank : Entry
 blank = record { node = Closed; next = 0 }
@@ -88,17 +88,26 @@ abbrev pub count : ℕ → List ℕ → ℕ
 count i [] = 0
 count i (x ∷ xs) = one i x + count i xs
 
--- from place i on, the places of the list follow one another, below n, and are one whole tree for each that waits, where each has its box
-abbrev pub Listed : (ℕ → Node) → (ℕ → ℕ) → (ℕ → Sets) → ℕ → ℕ → List ℕ → List Waiting → Type 0
-Listed node next box n i [] ws = ws ≡ []
+-- the boxes that wait after a node at a box, the next one first: a search makes no Split, so each is that of a whole tree
+abbrev pub boxes_after : Node → Sets → List Sets → List Sets
+boxes_after (Branch v x) b bs = half b v x AtMost ∷ half b v x Above ∷ bs
+boxes_after Closed b bs = bs
+boxes_after Open b bs = bs
+boxes_after Split b bs = bs
+boxes_after (Part number) b bs = bs
+
+-- from place i on, the places of the list follow one another, below n, and are one whole tree for each box that waits, where each has its
+-- box
+abbrev pub Listed : (ℕ → Node) → (ℕ → ℕ) → (ℕ → Sets) → ℕ → ℕ → List ℕ → List Sets → Type 0
+Listed node next box n i [] bs = bs ≡ []
 Listed node next box n i (x ∷ xs) [] = ⊥
-Listed node next box n i (x ∷ xs) (Whole b ∷ ws) = (i ≡ x) × (x < n) × (box x ≡ b)
-    × Listed node next box n (next x) xs (after (node x) (Whole b) ws)
+Listed node next box n i (x ∷ xs) (b ∷ bs) = (i ≡ x) × (x < n) × (box x ≡ b)
+    × Listed node next box n (next x) xs (boxes_after (node x) b bs)
 
 -- a tree: the order of its places, and the box of each
 pub record Grown (root : Sets) (es : List Entry) : Type 0 where
   pub box : ℕ → Sets
   pub order : List ℕ
-  pub listed : Listed (node_of es) (next_of es) box (length es) 0 order (Whole root ∷ [])
+  pub listed : Listed (node_of es) (next_of es) box (length es) 0 order (root ∷ [])
   pub long : length order ≡ length es
   pub once : (i : ℕ) → i < length es → count i order ≡ 1

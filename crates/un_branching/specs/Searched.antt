@@ -11,12 +11,13 @@ use Rattle.un_branching.specs.declared.problem.Expansion.{Expansion}
 use Rattle.un_branching.specs.declared.attempt.Tried.{Tried}
 use Rattle.un_branching.specs.declared.attempt.Tried.TheVariants.{Found as Good, Refuted, Cut}
 
-module _ (root : Sets) (fix : Sets → Option Sets) (least : Sets → ℕ → Type 0) (good : List ℕ → Type 0) where
+module _ (blocks : ℕ) (root : Sets) (fix : Sets → Option Sets) (least : Sets → ℕ → Type 0) (good : List ℕ → Type 0) where
   abbrev pub IsTried : ℕ → Tried → Type 0
   IsTried n (Good x) = good x.items
-  IsTried n (Refuted t) = IsRefutation root fix least good n t.nodes.items
-  IsTried n (Cut t low) = IsStopped root fix least good n t.nodes.items low
+  IsTried n (Refuted t) = IsRefutation blocks root fix least good n t.nodes.items
+  IsTried n (Cut t low) = IsStopped blocks root fix least good n t.nodes.items low
 
+module _ (root : Sets) (fix : Sets → Option Sets) (least : Sets → ℕ → Type 0) (good : List ℕ → Type 0) where
   -- by the first box alone
   abbrev pub IsByRoot : Tried → Type 0
   IsByRoot (Good x) = MatchOption (fix root) ⊥ (IsSingle x.items)

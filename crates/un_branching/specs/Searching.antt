@@ -3,7 +3,7 @@ use Rattle.std.specs.Prelude.{ℕ, ◌≡◌, ◌+◌, ◌%◌, ◌<◌, ◌≤�
 use Rattle.std.specs.List.Sorted.{IsPermutation}
 use Rattle.un_domains.specs.Sets.{Sets}
 use Rattle.un_tree.specs.declared.node.Node.{Node}
-use Rattle.un_tree.specs.declared.node.Node.TheVariants.{Branch, Closed, Open}
+use Rattle.un_tree.specs.declared.node.Node.TheVariants.{Branch, Closed, Open, Split, Part}
 use Rattle.un_branching.specs.declared.growth.Entry.{Entry}
 use Rattle.un_branching.specs.declared.growth.Link.{Link}
 use Rattle.un_branching.specs.declared.open_nodes.OpenNode.{OpenNode}
@@ -23,6 +23,8 @@ abbrev pub is_open : Node → ℕ
 is_open Open = 1
 is_open Closed = 0
 is_open (Branch v x) = 0
+is_open Split = 0
+is_open (Part number) = 0
 
 -- how often a place waits
 abbrev pub times : ℕ → List OpenNode → ℕ

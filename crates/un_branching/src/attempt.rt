@@ -132,7 +132,7 @@ fn search<P: Problem>(
     requires some { 0 < nodes }
     ensures ready { IfOk result (λ t. P.is_ready problem.now room.new) }
     ensures tried { IfOk result
-        (IsTried (P.root problem.now) (P.fix problem.now) (P.least problem.now) (P.is_good problem.now) nodes) }
+        (IsTried (P.block_count problem.now) (P.root problem.now) (P.fix problem.now) (P.least problem.now) (P.is_good problem.now) nodes) }
     ensures first { nodes < 3 → IfOk result
         (IsByRoot (P.root problem.now) (P.fix problem.now) (P.least problem.now) (P.is_good problem.now)) }
 {
@@ -168,7 +168,7 @@ pub fn attempt<P: Problem>(
     requires some { 0 < nodes }
     ensures ready { IfOk result (λ t. P.is_ready problem.now room.new) }
     ensures tried { IfOk result
-        (IsTried (P.root problem.now) (P.fix problem.now) (P.least problem.now) (P.is_good problem.now) nodes) }
+        (IsTried (P.block_count problem.now) (P.root problem.now) (P.fix problem.now) (P.least problem.now) (P.is_good problem.now) nodes) }
     ensures first { nodes < 3 → IfOk result
         (IsByRoot (P.root problem.now) (P.fix problem.now) (P.least problem.now) (P.is_good problem.now)) }
 {

@@ -39,6 +39,9 @@ pub trait Problem {
     /// What it works in.
     type Room;
 
+    /// The number of blocks; a search makes no Split, and never looks at it.
+    ghost block_count: { Self → ℕ };
+
     /// The first box.
     ghost root: { Self → Sets };
 

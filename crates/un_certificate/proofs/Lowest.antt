@@ -5,9 +5,9 @@ use Rattle.std.proofs.lemmas.List.Elements.{All-contains, All-weaker}
 use Rattle.un_model.specs.declared.model.Model.{Model}
 use Rattle.un_bound.specs.Relaxations.{IsLeast}
 use Rattle.un_tree.specs.Searched.{HasAtLeast, HasLeast, IsLowest}
-use Rattle.un_tree.specs.Waits.{Waiting, Whole, Visit}
+use Rattle.un_tree.specs.Waits.{Waiting, Whole, Begins, Inside, Visit}
 use Rattle.un_tree.specs.declared.node.Node.{Node}
-use Rattle.un_tree.specs.declared.node.Node.TheVariants.{Branch, Closed, Open}
+use Rattle.un_tree.specs.declared.node.Node.TheVariants.{Branch, Closed, Open, Split, Part}
 use Rattle.un_certificate.proofs.Numbers.{plain_one}
 use Rattle.un_certificate.specs.Bounds.{IsBound, IsLowestUnder}
 
@@ -15,11 +15,17 @@ pub lower : (m : Model) (low k : ℕ) (n : Node) (w : Waiting) → low ≤ k →
 lower m low k (Branch v x) w le h = tt
 lower m low k Closed w le h = tt
 lower m low k Open (Whole b) le h = λ l is. (let e = h l is in omega (arith, e, le))
+lower m low k Open (Begins j b) le h = tt
+lower m low k Open (Inside j number b) le h = tt
+lower m low k Split w le h = tt
+lower m low k (Part number) w le h = tt
 
 pub other_least : (m : Model) (low : ℕ) (n : Node) (w : Waiting) → n ≢ Open → HasAtLeast (IsLeast m) low n w
 other_least m low (Branch v x) w never = tt
 other_least m low Closed w never = tt
 other_least m low Open w never = absurd (never refl)
+other_least m low Split w never = tt
+other_least m low (Part number) w never = tt
 
 all_lower : (m : Model) (low k : ℕ) (ps : List Visit) → low ≤ k → All (λ (p : Visit). HasAtLeast (IsLeast m) k p.node p.waiting) ps
     → All (λ (p : Visit). HasAtLeast (IsLeast m) low p.node p.waiting) ps
@@ -54,6 +60,10 @@ below_least : (m : Model) (a b : ℕ) (n : Node) (w : Waiting) → HasAtLeast (I
 below_least m a b (Branch v x) w h k = absurd k
 below_least m a b Closed w h k = absurd k
 below_least m a b Open (Whole box) h k = h b k
+below_least m a b Open (Begins j box) h k = absurd k
+below_least m a b Open (Inside j number box) h k = absurd k
+below_least m a b Split w h k = absurd k
+below_least m a b (Part number) w h k = absurd k
 
 lowest_below : (m : Model) (c a b : ℕ) (ps : List Visit) → IsLowestUnder m c ps a → IsLowestUnder m c ps b → a ≤ b
 lowest_below m c a b ps x y = elim y.reached [

@@ -1,4 +1,5 @@
 pub mod Bounds
 pub mod Certificates
+pub mod Joints
 pub mod ModelLaws
 pub mod Posted

@@ -4,10 +4,10 @@ ghost use Rattle.std.specs.Prelude.{◌≡◌, List, All};
 ghost use Rattle.un_model.specs.declared.model.Model.{Model};
 ghost use Rattle.un_bound.specs.Arcs.{IsShort};
 ghost use Rattle.un_post.specs.Postable.{IsPostable};
-ghost use Rattle.un_tree.specs.Waits.{Visit, visits_of};
+ghost use Rattle.un_tree.specs.Waits.{Visit};
 ghost use Rattle.un_tree.specs.declared.node.Node.{Node};
 ghost use Rattle.un_certificate.specs.Bounds.{IsBound, IsLeastOpen, IsLowestUnder};
-ghost use Rattle.un_model.specs.Boxes.{root_of};
+ghost use Rattle.un_certificate.specs.Joints.{visits_in};
 
 use un_bound::plain::plain_bound;
 use un_model::model::Model;
@@ -27,8 +27,7 @@ fn lowest_under(cost: u64, least: Option<u64>) -> u64
 pub fn bound_of(m: &Model, cost: u64, least: Option<u64>) -> u64
     requires postable { IsPostable m.now }
     requires short { All IsShort m.now.ext.blocks }
-    ensures { (t : List Node) → IsLeastOpen m.now (visits_of (root_of m.now) t) least
-        → IsBound m.now cost (visits_of (root_of m.now) t) result }
+    ensures { (t : List Node) → IsLeastOpen m.now (visits_in m.now t) least → IsBound m.now cost (visits_in m.now t) result }
 {
     plain_bound(m).max(lowest_under(cost, least))
 }

@@ -4,3 +4,4 @@
 
 pub mod bound;
 pub mod laws;
+pub mod split;

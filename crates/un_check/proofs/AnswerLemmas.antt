@@ -4,7 +4,7 @@ use Rattle.std.proofs.lemmas.Bool.Decides.{nat_tests}
 use Rattle.std.specs.declared.option.Option.{Option}
 use Rattle.std.specs.declared.result.Result.{Result}
 use Rattle.un_outside.specs.declared.status.NoCause.{NoCause}
-use Rattle.un_outside.specs.declared.status.NoCause.TheVariants.{Strict, Alive, Closed as Refuted, Short as Torn}
+use Rattle.un_outside.specs.declared.status.NoCause.TheVariants.{Strict, Split as Parted, Alive, Closed as Refuted, Short as Torn}
 use Rattle.un_model.specs.Solutions.{IsSolution, ListsBroken, latency_gap}
 use Rattle.un_model.specs.declared.model.Model.{Model}
 use Rattle.un_model.specs.declared.model.Solution.{Solution}
@@ -55,6 +55,7 @@ bound_test m c ps bound n is = (
 pub tree_cause : (name : List ℕ) (m : Model) (r : Claim) (c : NoCause) → IsRightHead name m r → IsTreeCause m (limit_of r.answer) r.tree c
     → IsCause name m r c
 tree_cause name m r (Strict i) head x = (head, x)
+tree_cause name m r (Parted i) head x = (head, x)
 tree_cause name m r (Alive i) head x = (head, x)
 tree_cause name m r (Refuted i) head x = (head, x)
 tree_cause name m r Torn head x = (head, x)

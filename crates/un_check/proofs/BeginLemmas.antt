@@ -1,5 +1,5 @@
 -- Before the first node.
-use Rattle.std.proofs.Common.{ℕ, ◌≡◌, ◌≢◌, ◌+◌, ◌≤◌, Bool, true, List, [], ◌∷◌, length, map, None}
+use Rattle.std.proofs.Common.{ℕ, ◌≡◌, ◌≢◌, ◌+◌, ◌≤◌, List, [], ◌∷◌, length, map, None, true}
 use Rattle.std.proofs.Common.{sym, ap, subst, ◌∙◌, arith}
 use Rattle.std.specs.declared.option.Option.{Option}
 use Rattle.std.specs.List.{AllByRecursion}
@@ -20,26 +20,30 @@ use Rattle.un_tree.specs.declared.node.Node.{Node}
 use Rattle.un_tree.specs.declared.node.Node.TheVariants.{Open}
 use Rattle.un_model.specs.Boxes.{root_of}
 use Rattle.un_stand.specs.Rooms.{path_of}
-use Rattle.un_walk.specs.Turns.{waits, waiting_at}
+use Rattle.un_walk.specs.Turns.{waits}
 use Rattle.un_check.specs.Judging.{HasScratch}
 use Rattle.un_certificate.specs.Bounds.{IsLeastOpen}
-use Rattle.un_check.specs.Walks.{IsWalk}
+use Rattle.un_certificate.specs.Joints.{blocks_of}
+use Rattle.un_check.specs.Walks.{IsWalk, box_of, outside_of, stage_waits, waiting_of}
+use Rattle.un_check.specs.declared.stage.Stage.TheVariants.{AtBox}
 use Rattle.un_check.specs.declared.walk.Walk.{Walk}
 
-pub first_walk : (m : Model) (limit : Option ℕ) (nodes : List Node) (w : Walk) → path_of w.room ≡ [] → w.more ≡ true → w.place ≡ 0
-    → w.open_leaves ≡ 0 → w.least ≡ None → IsWalk m limit nodes nodes w
-first_walk m limit nodes w path more place count least =
-    let one : waiting_at (root_of m) (path_of w.room) w.more ≡ Whole (root_of m) ∷ [] =
-    ap (λ (b : Bool). waiting_at (root_of m) (path_of w.room) b) more
+pub first_walk : (m : Model) (limit : Option ℕ) (nodes : List Node) (w : Walk) → path_of w.at.outer ≡ [] → w.at.stage ≡ AtBox → w.place ≡ 0
+    → w.outer_nodes ≡ 0 → w.open_leaves ≡ 0 → w.least ≡ None → IsWalk m limit nodes nodes w
+first_walk m limit nodes w path stage place outer count least =
+    let one : waiting_of m w.at ≡ Whole (root_of m) ∷ [] =
+    ap (stage_waits (blocks_of m) (box_of m w.at) (outside_of m w.at)) stage
     ∙ ap (λ (ds : List Decision). Whole (reached (root_of m) ds) ∷ waits (root_of m) ds) path in
     record {
       done = [];
-      split = ap (λ (i : ℕ). visits i nodes (Whole (root_of m) ∷ [])) (sym place)
-          ∙ ap (λ (ws : List Waiting). visits w.place nodes ws) (sym one);
+      split = ap (λ (i : ℕ). visits (blocks_of m) i nodes (Whole (root_of m) ∷ [])) (sym place)
+          ∙ ap (λ (ws : List Waiting). visits (blocks_of m) w.place nodes ws) (sym one);
       kept = All-nil _;
-      forth = λ h. subst (IsWhole nodes) (sym one) h;
-      back = λ h. subst (IsWhole nodes) one h;
+      stands = All-nil _;
+      forth = λ h. subst (IsWhole (blocks_of m) nodes) (sym one) h;
+      back = λ h. subst (IsWhole (blocks_of m) nodes) one h;
       counted = omega (arith, count);
+      outer = outer;
       lowest = subst (IsLeastOpen m []) (sym least) (All-nil (λ (p : Visit). p.node ≢ Open));
     }
 

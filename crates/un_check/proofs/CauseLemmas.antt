@@ -5,7 +5,7 @@ use Rattle.std.specs.declared.result.Result.{Result}
 use Rattle.un_isa.specs.declared.table.Table.{Table}
 use Rattle.un_ir.specs.declared.function.Function.{Function}
 use Rattle.un_outside.specs.declared.status.NoCause.{NoCause}
-use Rattle.un_outside.specs.declared.status.NoCause.TheVariants.{Name, Solution as Numbers, Cost, Listing, Strict, Alive, Closed as Refuted}
+use Rattle.un_outside.specs.declared.status.NoCause.TheVariants.{Name, Solution as Numbers, Cost, Listing, Strict, Split as Parted, Alive, Closed as Refuted}
 use Rattle.un_outside.specs.declared.status.NoCause.TheVariants.{Mirror, Short as Torn, Spent as Leaves, Bound}
 use Rattle.un_packet.specs.declared.code.Code.{Code as CodeValue}
 use Rattle.un_model.specs.Solutions.{IsSolution, ListsBroken, Tells, broken_clauses, latency_gap}
@@ -16,15 +16,14 @@ use Rattle.un_model.specs.declared.model.Solution.{Solution}
 use Rattle.un_model.specs.declared.verdict.Verdict.{Verdict}
 use Rattle.un_violations.proofs.Verdicts.{unbroken}
 use Rattle.un_problem.specs.Problems.{IsModelOf}
-use Rattle.un_tree.specs.Waits.{IsTreeOf, visits_of}
 use Rattle.un_tree.specs.declared.node.Node.{Node}
-use Rattle.un_model.specs.Boxes.{root_of}
+use Rattle.un_certificate.specs.Joints.{visits_in, IsTreeIn}
 use Rattle.un_report.specs.declared.report.Answered.{Answered}
 use Rattle.un_report.specs.declared.report.Answered.TheVariants.{Code, Infeasible, Spent}
 use Rattle.un_check.specs.Causes.{Claim, limit_of, IsFirstBroken, IsRightAnswer, IsCodeCause, IsAnswerCause, IsRightTree, IsTreeCause}
 use Rattle.un_check.specs.Causes.{HasRightLeaves, HasRightBound, IsRightHead, IsRightBody, IsRight, IsCause, IsToldBy, IsTold}
 use Rattle.un_check.specs.Verdicts.{Keeps}
-use Rattle.un_check.specs.declared.verdict.TreeVerdict.TheVariants.{NotStrict, NotAlive, NotClosed}
+use Rattle.un_check.specs.declared.verdict.TreeVerdict.TheVariants.{NotStrict, NotSplit, NotAlive, NotClosed}
 use Rattle.un_check.proofs.OneModel.{model_one}
 use Rattle.un_check.proofs.VerdictLemmas.{first_one, first_not}
 
@@ -101,33 +100,44 @@ module _ (m : Model) where
 
   module _ (limit : Option ℕ) (t : List Node) where
     tree_one : (c d : NoCause) → IsTreeCause m limit t c → IsTreeCause m limit t d → c ≡ d
-    tree_one (Strict i) (Strict j) x y = let e = first_one m limit (visits_of (root_of m) t) (NotStrict i) (NotStrict j) x y in cc e
-    tree_one (Strict i) (Alive j) x y = let e = first_one m limit (visits_of (root_of m) t) (NotStrict i) (NotAlive j) x y in cc e
-    tree_one (Strict i) (Refuted j) x y = let e = first_one m limit (visits_of (root_of m) t) (NotStrict i) (NotClosed j) x y in cc e
-    tree_one (Strict i) Torn x y = absurd (first_not m limit (visits_of (root_of m) t) (NotStrict i) x y.kept)
-    tree_one (Alive i) (Strict j) x y = let e = first_one m limit (visits_of (root_of m) t) (NotAlive i) (NotStrict j) x y in cc e
-    tree_one (Alive i) (Alive j) x y = let e = first_one m limit (visits_of (root_of m) t) (NotAlive i) (NotAlive j) x y in cc e
-    tree_one (Alive i) (Refuted j) x y = let e = first_one m limit (visits_of (root_of m) t) (NotAlive i) (NotClosed j) x y in cc e
-    tree_one (Alive i) Torn x y = absurd (first_not m limit (visits_of (root_of m) t) (NotAlive i) x y.kept)
-    tree_one (Refuted i) (Strict j) x y = let e = first_one m limit (visits_of (root_of m) t) (NotClosed i) (NotStrict j) x y in cc e
-    tree_one (Refuted i) (Alive j) x y = let e = first_one m limit (visits_of (root_of m) t) (NotClosed i) (NotAlive j) x y in cc e
-    tree_one (Refuted i) (Refuted j) x y = let e = first_one m limit (visits_of (root_of m) t) (NotClosed i) (NotClosed j) x y in cc e
-    tree_one (Refuted i) Torn x y = absurd (first_not m limit (visits_of (root_of m) t) (NotClosed i) x y.kept)
-    tree_one Torn (Strict j) x y = absurd (first_not m limit (visits_of (root_of m) t) (NotStrict j) y x.kept)
-    tree_one Torn (Alive j) x y = absurd (first_not m limit (visits_of (root_of m) t) (NotAlive j) y x.kept)
-    tree_one Torn (Refuted j) x y = absurd (first_not m limit (visits_of (root_of m) t) (NotClosed j) y x.kept)
+    tree_one (Strict i) (Strict j) x y = let e = first_one m limit (visits_in m t) (NotStrict i) (NotStrict j) x y in cc e
+    tree_one (Strict i) (Parted j) x y = let e = first_one m limit (visits_in m t) (NotStrict i) (NotSplit j) x y in cc e
+    tree_one (Strict i) (Alive j) x y = let e = first_one m limit (visits_in m t) (NotStrict i) (NotAlive j) x y in cc e
+    tree_one (Strict i) (Refuted j) x y = let e = first_one m limit (visits_in m t) (NotStrict i) (NotClosed j) x y in cc e
+    tree_one (Strict i) Torn x y = absurd (first_not m limit (visits_in m t) (NotStrict i) x y.kept)
+    tree_one (Parted i) (Strict j) x y = let e = first_one m limit (visits_in m t) (NotSplit i) (NotStrict j) x y in cc e
+    tree_one (Parted i) (Parted j) x y = let e = first_one m limit (visits_in m t) (NotSplit i) (NotSplit j) x y in cc e
+    tree_one (Parted i) (Alive j) x y = let e = first_one m limit (visits_in m t) (NotSplit i) (NotAlive j) x y in cc e
+    tree_one (Parted i) (Refuted j) x y = let e = first_one m limit (visits_in m t) (NotSplit i) (NotClosed j) x y in cc e
+    tree_one (Parted i) Torn x y = absurd (first_not m limit (visits_in m t) (NotSplit i) x y.kept)
+    tree_one (Alive i) (Strict j) x y = let e = first_one m limit (visits_in m t) (NotAlive i) (NotStrict j) x y in cc e
+    tree_one (Alive i) (Parted j) x y = let e = first_one m limit (visits_in m t) (NotAlive i) (NotSplit j) x y in cc e
+    tree_one (Alive i) (Alive j) x y = let e = first_one m limit (visits_in m t) (NotAlive i) (NotAlive j) x y in cc e
+    tree_one (Alive i) (Refuted j) x y = let e = first_one m limit (visits_in m t) (NotAlive i) (NotClosed j) x y in cc e
+    tree_one (Alive i) Torn x y = absurd (first_not m limit (visits_in m t) (NotAlive i) x y.kept)
+    tree_one (Refuted i) (Strict j) x y = let e = first_one m limit (visits_in m t) (NotClosed i) (NotStrict j) x y in cc e
+    tree_one (Refuted i) (Parted j) x y = let e = first_one m limit (visits_in m t) (NotClosed i) (NotSplit j) x y in cc e
+    tree_one (Refuted i) (Alive j) x y = let e = first_one m limit (visits_in m t) (NotClosed i) (NotAlive j) x y in cc e
+    tree_one (Refuted i) (Refuted j) x y = let e = first_one m limit (visits_in m t) (NotClosed i) (NotClosed j) x y in cc e
+    tree_one (Refuted i) Torn x y = absurd (first_not m limit (visits_in m t) (NotClosed i) x y.kept)
+    tree_one Torn (Strict j) x y = absurd (first_not m limit (visits_in m t) (NotStrict j) y x.kept)
+    tree_one Torn (Parted j) x y = absurd (first_not m limit (visits_in m t) (NotSplit j) y x.kept)
+    tree_one Torn (Alive j) x y = absurd (first_not m limit (visits_in m t) (NotAlive j) y x.kept)
+    tree_one Torn (Refuted j) x y = absurd (first_not m limit (visits_in m t) (NotClosed j) y x.kept)
     tree_one Torn Torn x y = refl
     tree_one (Strict i) _ x y = absurd y
+    tree_one (Parted i) _ x y = absurd y
     tree_one (Alive i) _ x y = absurd y
     tree_one (Refuted i) _ x y = absurd y
     tree_one Torn _ x y = absurd y
     tree_one _ d x y = absurd x
 
     -- one whole tree that keeps all points has no cause
-    pub tree_not : (c : NoCause) → IsTreeCause m limit t c → All (Keeps m limit) (visits_of (root_of m) t) → IsTreeOf (root_of m) t → ⊥
-    tree_not (Strict i) x kept whole = first_not m limit (visits_of (root_of m) t) (NotStrict i) x kept
-    tree_not (Alive i) x kept whole = first_not m limit (visits_of (root_of m) t) (NotAlive i) x kept
-    tree_not (Refuted i) x kept whole = first_not m limit (visits_of (root_of m) t) (NotClosed i) x kept
+    pub tree_not : (c : NoCause) → IsTreeCause m limit t c → All (Keeps m limit) (visits_in m t) → IsTreeIn m t → ⊥
+    tree_not (Strict i) x kept whole = first_not m limit (visits_in m t) (NotStrict i) x kept
+    tree_not (Parted i) x kept whole = first_not m limit (visits_in m t) (NotSplit i) x kept
+    tree_not (Alive i) x kept whole = first_not m limit (visits_in m t) (NotAlive i) x kept
+    tree_not (Refuted i) x kept whole = first_not m limit (visits_in m t) (NotClosed i) x kept
     tree_not Torn x kept whole = x.torn whole
     tree_not _ x kept whole = x
 
@@ -141,8 +151,8 @@ module _ (name : List ℕ) (m : Model) (r : Claim) where
   abbrev pub Stage : NoCause → Type 0
   Stage c = ((c ≡ Name) × (r.name ≢ name)) ⊎ (((r.name ≡ name) × IsAnswerCause m r.answer c) ⊎
       ((IsRightHead name m r × IsTreeCause m (limit_of r.answer) r.tree c) ⊎
-      (((c ≡ Leaves) × IsRightBody name m r × (HasRightLeaves r.nodes r.answer r.tree → ⊥)) ⊎
-      ((c ≡ Bound) × IsRightBody name m r × HasRightLeaves r.nodes r.answer r.tree × (HasRightBound m r.answer r.tree → ⊥)))))
+      (((c ≡ Leaves) × IsRightBody name m r × (HasRightLeaves m r.nodes r.answer r.tree → ⊥)) ⊎
+      ((c ≡ Bound) × IsRightBody name m r × HasRightLeaves m r.nodes r.answer r.tree × (HasRightBound m r.answer r.tree → ⊥)))))
 
   pub stage : (c : NoCause) → IsCause name m r c → Stage c
   stage Name x = inl (refl, x)
@@ -150,6 +160,7 @@ module _ (name : List ℕ) (m : Model) (r : Claim) where
   stage Cost x = inr (inl x)
   stage Listing x = inr (inl x)
   stage (Strict i) x = inr (inr (inl x))
+  stage (Parted i) x = inr (inr (inl x))
   stage (Alive i) x = inr (inr (inl x))
   stage (Refuted i) x = inr (inr (inl x))
   stage (Mirror i) x = absurd x

@@ -1,5 +1,5 @@
 -- What is found of a node.
-use Rattle.std.proofs.Common.{ℕ, ◌≡◌, ◌<◌, ◌≤◌, All, length, Some, None, refl, sym, subst, arith}
+use Rattle.std.proofs.Common.{ℕ, ◌≡◌, ◌<◌, ◌≤◌, ◌↔◌, Bool, true, false, IsTrue, List, All, length, Some, None, refl, sym, subst, ◌∙◌, arith}
 use Rattle.std.specs.declared.option.Option.{Option}
 use Rattle.std.proofs.Common.{◌+◌}
 use Rattle.std.proofs.lemmas.List.{length-map}
@@ -11,19 +11,23 @@ use Rattle.un_model.specs.declared.model.Model.{Model}
 use Rattle.un_bound.specs.Relaxations.{IsLeast, IsRelaxation}
 use Rattle.un_bound.specs.declared.relax.RelaxAnswer.{RelaxAnswer}
 use Rattle.un_bound.specs.declared.relax.RelaxAnswer.TheVariants.{Empty, Least}
-use Rattle.un_post.specs.Posts.{fix_at}
 use Rattle.un_prop.specs.declared.propagator.Scratch.{Scratch}
 use Rattle.un_base.specs.declared.ids.VarId.{VarId}
 use Rattle.un_tree.specs.Boxes.{Splits, reached}
-use Rattle.un_tree.specs.Waits.{Whole}
-use Rattle.un_tree.specs.declared.node.Node.TheVariants.{Branch, Closed, Open}
+use Rattle.un_tree.specs.Waits.{Whole, Begins, Inside}
+use Rattle.un_tree.specs.declared.node.Node.{Node}
+use Rattle.un_tree.specs.declared.node.Node.TheVariants.{Branch, Closed, Open, Split, Part}
 use Rattle.un_certificate.specs.Certificates.{IsEmptyUnder}
+use Rattle.un_certificate.specs.Joints.{IsOwn}
+use Rattle.un_certificate.specs.ModelLaws.{part_keeps, posted_keeps}
 use Rattle.un_model.specs.Boxes.{root_of}
-use Rattle.un_stand.specs.Rooms.{IsAt, path_of}
+use Rattle.un_stand.specs.Rooms.{IsAt, IsLost, IsPartAt, Rests, path_of}
+use Rattle.un_stand.proofs.ModelRooms.{at_box, at_lost, at_rests, part_box, part_lost, part_rests}
 use Rattle.un_stand.specs.declared.room.Room.{Room}
 use Rattle.un_check.specs.Judging.{HasScratch, IsUnder, IsLeastUnder, IsJudged}
+use Rattle.un_check.specs.Verdicts.{IsRightNode}
 use Rattle.un_check.specs.declared.judge.Judged.TheVariants.{Broken, Kept, Leaf}
-use Rattle.un_check.specs.declared.verdict.TreeVerdict.TheVariants.{NotStrict, NotAlive, NotClosed}
+use Rattle.un_check.specs.declared.verdict.TreeVerdict.TheVariants.{NotStrict, NotSplit, NotAlive, NotClosed}
 
 -- a relaxation keeps the room that it uses
 pub scratch_kept : (m : Model) (a b : Scratch) → HasScratch m a → length b.fixed.items ≡ length a.fixed.items
@@ -62,51 +66,134 @@ least_is m (Some c) b (Least n) None h u = none_under m b n h c u
 least_is m (Some c) b (Least n) (Some k) h u =
     subst (λ (j : ℕ). IsLeastUnder m (Some c) b (Some j)) (sym u.0) (h, some_under m b n h c u.1)
 
--- the box that the store has
-module _ (m : Model) (limit : Option ℕ) (r : Room) (h : IsAt m limit r) where
-  pub at_cuts : (P : Sets → Type 0) → P r.stand.cuts.sets → P (reached (root_of m) (path_of r))
-  at_cuts P p = subst P h.stand.sets p
+-- outside of parts, at the box that the store has
+pub at_cuts : (m : Model) (limit : Option ℕ) (r : Room) → IsAt m limit r → (P : Sets → Type 0) → P r.stand.cuts.sets
+    → P (reached (root_of m) (path_of r))
+at_cuts m limit r h P p = subst P h.room.stand.sets p
 
-  pub branch_one : (place : ℕ) (v : VarId) (x : ℕ) → (Splits r.stand.cuts.sets v x → ⊥)
-      → IsJudged m limit place (Branch v x) (Whole (reached (root_of m) (path_of r))) (Broken (NotStrict place))
-  branch_one place v x never = (refl, at_cuts (λ b. Splits b v x → ⊥) never)
+module _ (m : Model) (limit : Option ℕ) (r : Room) (h : IsAt m limit r) (place : ℕ) (rest : List Node) where
+  pub branch_one : (v : VarId) (x : ℕ) → (Splits r.stand.cuts.sets v x → ⊥)
+      → IsJudged m limit place (Branch v x) (Whole (reached (root_of m) (path_of r))) rest (Broken (NotStrict place))
+  branch_one v x never = (refl, at_cuts m limit r h (λ b. Splits b v x → ⊥) never)
 
-  pub branch_empty : (place : ℕ) (v : VarId) (x : ℕ) (least : Option ℕ) → Splits r.stand.cuts.sets v x
+  pub branch_empty : (v : VarId) (x : ℕ) (least : Option ℕ) → Splits r.stand.cuts.sets v x
       → IsLeastUnder m limit (reached (root_of m) (path_of r)) least → least ≡ None
-      → IsJudged m limit place (Branch v x) (Whole (reached (root_of m) (path_of r))) (Broken (NotAlive place))
-  branch_empty place v x least s l is = (
+      → IsJudged m limit place (Branch v x) (Whole (reached (root_of m) (path_of r))) rest (Broken (NotAlive place))
+  branch_empty v x least s l is = (
     refl,
-    at_cuts (λ b. Splits b v x) s,
+    at_cuts m limit r h (λ b. Splits b v x) s,
     (let e = subst (IsLeastUnder m limit (reached (root_of m) (path_of r))) is l in λ alive. alive e),
   )
 
-  pub branch_kept : (place : ℕ) (v : VarId) (x : ℕ) (least : Option ℕ) (k : ℕ) → Splits r.stand.cuts.sets v x
+  pub branch_kept : (v : VarId) (x : ℕ) (least : Option ℕ) (k : ℕ) → Splits r.stand.cuts.sets v x
       → IsLeastUnder m limit (reached (root_of m) (path_of r)) least → least ≡ Some k
-      → IsJudged m limit place (Branch v x) (Whole (reached (root_of m) (path_of r))) Kept
-  branch_kept place v x least k s l is = (
+      → IsJudged m limit place (Branch v x) (Whole (reached (root_of m) (path_of r))) rest Kept
+  branch_kept v x least k s l is = (
     record {
-      strict = at_cuts (λ b. Splits b v x) s;
+      strict = at_cuts m limit r h (λ b. Splits b v x) s;
+      right = tt;
       alive = (subst (IsLeastUnder m limit (reached (root_of m) (path_of r))) is l).1;
       lost = tt;
     },
     λ e. cc e,
+    tt,
   )
 
-  pub open_empty : (place : ℕ) (least : Option ℕ) → IsLeastUnder m limit (reached (root_of m) (path_of r)) least → least ≡ None
-      → IsJudged m limit place Open (Whole (reached (root_of m) (path_of r))) (Broken (NotAlive place))
-  open_empty place least l is =
+  pub open_empty : (least : Option ℕ) → IsLeastUnder m limit (reached (root_of m) (path_of r)) least → least ≡ None
+      → IsJudged m limit place Open (Whole (reached (root_of m) (path_of r))) rest (Broken (NotAlive place))
+  open_empty least l is =
       (refl, tt, (let e = subst (IsLeastUnder m limit (reached (root_of m) (path_of r))) is l in λ alive. alive e))
 
-  pub open_kept : (place : ℕ) (least : Option ℕ) (k : ℕ) → IsLeastUnder m limit (reached (root_of m) (path_of r)) least
-      → least ≡ Some k → IsJudged m limit place Open (Whole (reached (root_of m) (path_of r))) (Leaf k)
-  open_kept place least k l is =
+  pub open_kept : (least : Option ℕ) (k : ℕ) → IsLeastUnder m limit (reached (root_of m) (path_of r)) least
+      → least ≡ Some k → IsJudged m limit place Open (Whole (reached (root_of m) (path_of r))) rest (Leaf k)
+  open_kept least k l is =
       let e = subst (IsLeastUnder m limit (reached (root_of m) (path_of r))) is l in
-      (record { strict = tt; alive = e.1; lost = tt }, e.0)
+      (record { strict = tt; right = tt; alive = e.1; lost = tt }, e.0)
 
-  pub closed_kept : (place : ℕ) → fix_at m limit (reached (root_of m) (path_of r)) ≡ None
-      → IsJudged m limit place Closed (Whole (reached (root_of m) (path_of r))) Kept
-  closed_kept place none = (record { strict = tt; alive = tt; lost = none }, λ e. cc e)
+  -- on a box where the rounds fail there is no solution below the limit
+  pub closed_kept : IsLost r → IsJudged m limit place Closed (Whole (reached (root_of m) (path_of r))) rest Kept
+  closed_kept lost =
+      let none = at_lost m limit r h lost in (
+        record { strict = tt; right = tt; alive = tt; lost = none },
+        λ e. cc e,
+        λ x there good. posted_keeps m limit h.props h.posted (reached (root_of m) (path_of r)) x (at_box m limit r h) there good none,
+      )
 
-  pub closed_rests : (place : ℕ) → (fix_at m limit (reached (root_of m) (path_of r)) ≡ None → ⊥)
-      → IsJudged m limit place Closed (Whole (reached (root_of m) (path_of r))) (Broken (NotClosed place))
-  closed_rests place rests = (refl, rests)
+  pub closed_rests : Rests r → IsJudged m limit place Closed (Whole (reached (root_of m) (path_of r))) rest (Broken (NotClosed place))
+  closed_rests rests = (refl, at_rests m limit r h rests)
+
+  pub split_kept : (right : Bool) → right ≡ true → IsTrue right ↔ IsRightNode m limit Split (Whole r.stand.cuts.sets) rest
+      → IsJudged m limit place Split (Whole (reached (root_of m) (path_of r))) rest Kept
+  split_kept right on is = (
+    record { strict = tt; right = at_cuts m limit r h (λ b. IsRightNode m limit Split (Whole b) rest) (is.0 on); alive = tt; lost = tt },
+    λ e. cc e,
+    tt,
+  )
+
+  pub split_broken : (right : Bool) → right ≡ false → IsTrue right ↔ IsRightNode m limit Split (Whole r.stand.cuts.sets) rest
+      → IsJudged m limit place Split (Whole (reached (root_of m) (path_of r))) rest (Broken (NotSplit place))
+  split_broken right off is = (
+    refl,
+    tt,
+    at_cuts m limit r h (λ b. IsRightNode m limit Split (Whole b) rest → ⊥) (λ keeps. (let e : false ≡ true = sym off ∙ is.1 keeps in cc e)),
+  )
+
+  pub part_stray : (number : Option ℕ) → IsJudged m limit place (Part number) (Whole (reached (root_of m) (path_of r))) rest (Broken (NotSplit place))
+  part_stray number = (refl, tt, λ may. may)
+
+-- where a part must begin
+module _ (m : Model) (limit : Option ℕ) (place k : ℕ) (b : Sets) (rest : List Node) where
+  pub begin_kept : (number : Option ℕ) → IsJudged m limit place (Part number) (Begins k b) rest Kept
+  begin_kept number = (record { strict = tt; right = tt; alive = tt; lost = tt }, λ e. cc e, tt)
+
+  pub begin_branch : (v : VarId) (x : ℕ) → IsJudged m limit place (Branch v x) (Begins k b) rest (Broken (NotSplit place))
+  begin_branch v x = (refl, tt, λ may. may)
+
+  pub begin_closed : IsJudged m limit place Closed (Begins k b) rest (Broken (NotSplit place))
+  begin_closed = (refl, tt, λ may. may)
+
+  pub begin_open : IsJudged m limit place Open (Begins k b) rest (Broken (NotSplit place))
+  begin_open = (refl, tt, λ may. may)
+
+  pub begin_split : IsJudged m limit place Split (Begins k b) rest (Broken (NotSplit place))
+  begin_split = (refl, tt, λ may. may)
+
+-- in a part
+module _ (first : Sets) (m : Model) (k : ℕ) (limit number : Option ℕ) (r : Room) (h : IsPartAt first m k number r) (place : ℕ)
+    (rest : List Node) where
+  in_cuts : (P : Sets → Type 0) → P r.stand.cuts.sets → P (reached first (path_of r))
+  in_cuts P p = subst P h.room.stand.sets p
+
+  pub in_one : (v : VarId) (x : ℕ) → (Splits r.stand.cuts.sets v x → ⊥)
+      → IsJudged m limit place (Branch v x) (Inside k number (reached first (path_of r))) rest (Broken (NotStrict place))
+  in_one v x never = (refl, λ s. in_cuts (λ b. Splits b v x → ⊥) never s.0)
+
+  pub in_other : (v : VarId) (x : ℕ) → (IsOwn m k v → ⊥)
+      → IsJudged m limit place (Branch v x) (Inside k number (reached first (path_of r))) rest (Broken (NotStrict place))
+  in_other v x never = (refl, λ s. never s.1)
+
+  pub in_kept : (v : VarId) (x : ℕ) → Splits r.stand.cuts.sets v x → IsOwn m k v
+      → IsJudged m limit place (Branch v x) (Inside k number (reached first (path_of r))) rest Kept
+  in_kept v x s own =
+      (record { strict = (in_cuts (λ b. Splits b v x) s, own); right = tt; alive = tt; lost = tt }, λ e. cc e, tt)
+
+  -- on a box where the rounds of the block fail there is no member of its part below the number
+  pub in_closed : IsLost r → IsJudged m limit place Closed (Inside k number (reached first (path_of r))) rest Kept
+  in_closed lost =
+      let none = part_lost first m k number r h lost in (
+        record { strict = tt; right = tt; alive = tt; lost = none },
+        λ e. cc e,
+        λ x there good. part_keeps m k number h.props h.posted (reached first (path_of r)) x (part_box first m k number r h) there good none,
+      )
+
+  pub in_rests : Rests r → IsJudged m limit place Closed (Inside k number (reached first (path_of r))) rest (Broken (NotClosed place))
+  in_rests rests = (refl, part_rests first m k number r h rests)
+
+  pub in_open : IsJudged m limit place Open (Inside k number (reached first (path_of r))) rest (Broken (NotSplit place))
+  in_open = (refl, tt, λ may. may)
+
+  pub in_split : IsJudged m limit place Split (Inside k number (reached first (path_of r))) rest (Broken (NotSplit place))
+  in_split = (refl, tt, λ may. may)
+
+  pub in_part_line : (other : Option ℕ) → IsJudged m limit place (Part other) (Inside k number (reached first (path_of r))) rest (Broken (NotSplit place))
+  in_part_line other = (refl, tt, λ may. may)

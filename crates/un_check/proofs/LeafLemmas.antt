@@ -5,13 +5,15 @@ use Rattle.std.specs.List.{AllByRecursion}
 use Rattle.std.proofs.lemmas.List.Elements.{All-from_recursion, All-contains}
 use Rattle.un_tree.specs.Waits.{IsOdd, open_count}
 use Rattle.un_tree.specs.declared.node.Node.{Node}
-use Rattle.un_tree.specs.declared.node.Node.TheVariants.{Branch, Closed, Open}
+use Rattle.un_tree.specs.declared.node.Node.TheVariants.{Branch, Closed, Open, Split, Part}
 
 none_by : (t : List Node) → open_count t ≡ 0 → AllByRecursion (λ (n : Node). n ≡ Open → ⊥) t
 none_by [] e = tt
 none_by (Branch v x ∷ ns) e = (λ h. cc h, none_by ns e)
 none_by (Closed ∷ ns) e = (λ h. cc h, none_by ns e)
 none_by (Open ∷ ns) e = absurd (omega (arith, e))
+none_by (Split ∷ ns) e = (λ h. cc h, none_by ns e)
+none_by (Part number ∷ ns) e = (λ h. cc h, none_by ns e)
 
 -- no node is open where their number is 0
 pub none_open : (t : List Node) → open_count t ≡ 0 → All (λ (n : Node). n ≢ Open) t
@@ -24,6 +26,10 @@ open_at (Branch v x ∷ ns) (suc i) lt e = open_at ns i (omega (arith, lt)) e
 open_at (Closed ∷ ns) zero lt e = absurd (cc e)
 open_at (Closed ∷ ns) (suc i) lt e = open_at ns i (omega (arith, lt)) e
 open_at (Open ∷ ns) i lt e = omega arith
+open_at (Split ∷ ns) zero lt e = absurd (cc e)
+open_at (Split ∷ ns) (suc i) lt e = open_at ns i (omega (arith, lt)) e
+open_at (Part number ∷ ns) zero lt e = absurd (cc e)
+open_at (Part number ∷ ns) (suc i) lt e = open_at ns i (omega (arith, lt)) e
 
 pub open_some : (t : List Node) → Contains t Open → 0 < open_count t
 open_some t h = open_at t h.0 h.1 h.2
@@ -34,6 +40,8 @@ some_open [] lt = absurd (omega (arith, lt))
 some_open (Branch v x ∷ ns) lt = let h = some_open ns lt in (suc h.0, (let below = h.1 in omega (arith, below)), h.2)
 some_open (Closed ∷ ns) lt = let h = some_open ns lt in (suc h.0, (let below = h.1 in omega (arith, below)), h.2)
 some_open (Open ∷ ns) lt = (0, omega arith, refl)
+some_open (Split ∷ ns) lt = let h = some_open ns lt in (suc h.0, (let below = h.1 in omega (arith, below)), h.2)
+some_open (Part number ∷ ns) lt = let h = some_open ns lt in (suc h.0, (let below = h.1 in omega (arith, below)), h.2)
 
 pub closed_none : (t : List Node) → All (λ (n : Node). n ≢ Open) t → open_count t ≡ 0
 closed_none t h = by (open_count t) refl
@@ -67,15 +75,15 @@ module _ (o : ℕ) (t : List Node) (is : o ≡ open_count t) where
   )
 
   -- where no leaf is open, nothing is asked of the number of nodes
-  pub used_none : (count nodes : ℕ) → o ≡ 0 → IsTrue true ↔ (Contains t Open → IsOdd (length t) nodes)
+  pub used_none : (count nodes : ℕ) → o ≡ 0 → IsTrue true ↔ (Contains t Open → IsOdd count nodes)
   used_none count nodes none =
       (λ yes some. absurd (let lt = open_some t some in omega (arith, lt, none, is)), λ h. refl)
 
-  pub used_some : (count nodes : ℕ) (b : Bool) → (o ≡ 0 → ⊥) → length t ≡ count → IsTrue b ↔ IsOdd count nodes
-      → IsTrue b ↔ (Contains t Open → IsOdd (length t) nodes)
-  used_some count nodes b some long h = (
-    λ yes there. subst (λ (k : ℕ). IsOdd k nodes) (sym long) (h.0 yes),
-    λ odd. h.1 (subst (λ (k : ℕ). IsOdd k nodes) long (odd (some_open t (positive (open_count t) (λ e. some (is ∙ e)))))),
+  pub used_some : (count nodes : ℕ) (b : Bool) → (o ≡ 0 → ⊥) → IsTrue b ↔ IsOdd count nodes
+      → IsTrue b ↔ (Contains t Open → IsOdd count nodes)
+  used_some count nodes b some h = (
+    λ yes there. h.0 yes,
+    λ odd. h.1 (odd (some_open t (positive (open_count t) (λ e. some (is ∙ e))))),
   )
     where
       positive : (k : ℕ) → (k ≡ 0 → ⊥) → 0 < k

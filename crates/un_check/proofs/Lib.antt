@@ -9,6 +9,7 @@ pub mod ReportLemmas
 pub mod SearchLemmas
 pub mod SoundBounds
 pub mod SoundCodes
+pub mod StageLemmas
 pub mod TreeLemmas
 pub mod VerdictLemmas
 pub mod WalkLemmas

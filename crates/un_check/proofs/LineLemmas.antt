@@ -7,7 +7,12 @@ use Rattle.un_model.specs.declared.model.Model.{Model}
 use Rattle.un_tree.specs.Texts.{Fits, node_line, tree_text, BeginsNoNode, BeginsWith}
 use Rattle.un_tree.specs.declared.node.Node.{Node}
 use Rattle.un_tree.proofs.TreeTexts.{all_read, first_once, read_more, read_whole, text_end}
+use Rattle.un_tree.specs.Parts.{part_numbers, told}
+use Rattle.un_tree.specs.declared.node.Node.TheVariants.{Split}
+use Rattle.un_tree.specs.declared.parts.Parts.{Parts}
+use Rattle.un_certificate.specs.Joints.{blocks_of}
 use Rattle.un_check.specs.Causes.{AreLines}
+use Rattle.un_check.specs.Judging.{IsBehind}
 use Rattle.un_check.specs.Walks.{IsWalk}
 use Rattle.un_check.specs.declared.walk.Walk.{Walk}
 
@@ -95,14 +100,7 @@ pub none_counted : (text : List ℕ) (count : ℕ) (left : List ℕ) → AreCoun
     → (nodes : List Node) → All Fits nodes → text ≡ tree_text nodes → ⊥
 none_counted text count left h some bad nodes fit is = some (all_read text h.before nodes left h.whole h.fit fit is (inr bad)).0
 
--- lines are those of one list of nodes
-pub lines_one : (text : List ℕ) (a b : List Node) → All Fits a → All Fits b → text ≡ tree_text a → text ≡ tree_text b → a ≡ b
-lines_one text a b f g x y = (all_read text a b [] (x ∙ sym (append_nil (tree_text a))) f g y (inl refl)).1
-  where
-    append_nil : (xs : List ℕ) → xs ++ [] ≡ xs
-    append_nil [] = refl
-    append_nil (x ∷ xs) = ap (λ (ys : List ℕ). x ∷ ys) (append_nil xs)
-
-pub same_count : (text : List ℕ) (count : ℕ) (nodes : List Node) → AreLines count text → All Fits nodes → text ≡ tree_text nodes
-    → length nodes ≡ count
-same_count text count nodes h fit is = ap length (lines_one text nodes h.nodes fit h.fit is h.spelled) ∙ sym h.counted
+-- what is told of the parts in the lines behind a Split, for as many blocks as the model has
+pub behind_lines : (m : Model) (n : Node) (rest : List Node) (blocks : ℕ) (parts : Parts) → blocks ≡ blocks_of m
+    → (n ≡ Split → parts ≡ told (part_numbers blocks rest)) → IsBehind m n rest parts
+behind_lines m n rest blocks parts same h is = h is ∙ ap (λ (k : ℕ). told (part_numbers k rest)) same

@@ -13,5 +13,5 @@ use Rattle.un_check.specs.Sound.{IsSoundAnswer}
 pub sound_bounds : (f : Function) (m : Model) (t : List Node) (a : Answered) → IsProblemOf f m → IsSoundAnswer m t a → BoundsAll m a
 sound_bounds f m t (Code cost bound code s) p sound = λ x is.
     bound_below m cost t p.own p.extended p.fit p.options sound.standing bound sound.bounded x is
-sound_bounds f m t Infeasible p sound = λ x is. refuted m None t p.own sound.standing sound.closed x.values (is, tt)
+sound_bounds f m t Infeasible p sound = λ x is. refuted m None t p.own p.extended p.fit p.options sound.standing sound.closed x.values (is, tt)
 sound_bounds f m t Spent p sound = tt

@@ -4,7 +4,12 @@ use Rattle.std.specs.declared.option.Option.{Option}
 use Rattle.std.proofs.Math.Seq.{drop-cons}
 use Rattle.un_domains.specs.Sets.{NoneEmpty}
 use Rattle.un_model.specs.declared.model.Model.{Model}
+use Rattle.un_tree.specs.Parts.{part_numbers, told as told_parts}
 use Rattle.un_tree.specs.declared.node.Node.{Node}
+use Rattle.un_tree.specs.declared.node.Node.TheVariants.{Split}
+use Rattle.un_tree.specs.declared.parts.Parts.{Parts}
+use Rattle.un_certificate.specs.Joints.{blocks_of}
+use Rattle.un_check.specs.Judging.{IsBehind}
 use Rattle.un_check.specs.Verdicts.{IsVerdict}
 use Rattle.un_check.specs.Walks.{IsWalk}
 use Rattle.un_check.specs.declared.verdict.TreeVerdict.{TreeVerdict}
@@ -34,3 +39,9 @@ end_walk m limit nodes i w le h = subst (λ (ns : List Node). IsWalk m limit nod
     none zero (k ∷ ks) le = absurd (omega (arith, le))
     none (suc n) [] le = refl
     none (suc n) (k ∷ ks) le = none n ks (omega (arith, le))
+
+-- what is told of the parts behind the node at a place
+pub behind_nodes : (m : Model) (n : Node) (nodes rest : List Node) (i blocks : ℕ) (parts : Parts) → blocks ≡ blocks_of m
+    → rest ≡ drop (i + 1) nodes → (n ≡ Split → parts ≡ told_parts (part_numbers blocks rest)) → IsBehind m n (drop (i + 1) nodes) parts
+behind_nodes m n nodes rest i blocks parts same e h is =
+    h is ∙ (ap (λ (k : ℕ). told_parts (part_numbers k rest)) same ∙ ap (λ (ns : List Node). told_parts (part_numbers (blocks_of m) ns)) e)

@@ -1,35 +1,38 @@
 -- How far the check of a tree has come, node after node.
-use Rattle.std.proofs.Common.{ℕ, ◌≡◌, ◌≢◌, ◌≤◌, ◌+◌, Bool, true, false, List, [], ◌∷◌, ◌++◌, length, None, Some, All, min}
+use Rattle.std.proofs.Common.{ℕ, zero, ◌≡◌, ◌≢◌, ◌≤◌, ◌+◌, Bool, true, false, cond, List, [], ◌∷◌, ◌++◌, length, None, Some, All, min}
 use Rattle.std.proofs.Common.{Contains, refl, sym, ap, subst, ◌∙◌, append_assoc, length-append, inl, inr, arith}
 use Rattle.std.specs.declared.option.Option.{Option}
-use Rattle.std.specs.List.{AllByRecursion}
 use Rattle.std.proofs.lemmas.Bool.{cases_lt}
 use Rattle.std.proofs.lemmas.List.{get_or_append_left, get_or_at}
-use Rattle.std.proofs.lemmas.List.Elements.{All-push, All-same, All-weaker, recursion_from_All, All-from_recursion}
-use Rattle.un_domains.specs.OrderLaws.{Below-refl}
-use Rattle.un_domains.specs.Sets.{Sets, NoneEmpty}
+use Rattle.std.proofs.lemmas.List.Elements.{All-push, All-same, All-weaker}
+use Rattle.un_domains.specs.Sets.{Sets}
 use Rattle.un_model.specs.declared.model.Model.{Model}
 use Rattle.un_bound.specs.Relaxations.{IsLeast}
-use Rattle.un_domains.specs.declared.side.Side.TheVariants.{AtMost, Above}
-use Rattle.un_tree.specs.Boxes.{IsBox, half, reached}
-use Rattle.un_tree.specs.Covered.{Stands}
+use Rattle.un_post.specs.PartPosts.{IsPartBelow}
+use Rattle.un_tree.specs.Boxes.{reached}
+use Rattle.un_tree.specs.Covered.{Stands, StandsIn}
 use Rattle.un_tree.specs.Searched.{HasAtLeast, HasLeast, IsLowest}
-use Rattle.un_tree.specs.Waits.{Waiting, Whole, Visit, IsWhole, IsStrict, after, visits, visits_of, open_count}
+use Rattle.un_tree.specs.Waits.{Waiting, Whole, Begins, Inside, Visit, HasSidesIn, IsStrictIn, IsWhole, IsStrict, MayStand, after, is_outside, outer_count, visits, open_count}
+use Rattle.un_tree.specs.Parts.{IsRight}
 use Rattle.un_tree.specs.declared.node.Node.{Node}
-use Rattle.un_tree.specs.declared.node.Node.TheVariants.{Branch, Closed, Open}
+use Rattle.un_tree.specs.declared.node.Node.TheVariants.{Branch, Closed, Open, Split, Part}
 use Rattle.un_certificate.proofs.Lowest.{lower, other_least}
 use Rattle.un_certificate.specs.Bounds.{IsLeastOpen}
 use Rattle.un_certificate.specs.Certificates.{IsAlive, IsStanding}
+use Rattle.un_certificate.specs.Joints.{blocks_of, visits_in, IsTreeIn, IsOwn, AreJoined}
 use Rattle.un_model.specs.Boxes.{IsBelow, root_of}
-use Rattle.un_certificate.specs.ModelLaws.{posted_keeps}
-use Rattle.un_certificate.specs.Posted.{IsPosted}
 use Rattle.un_stand.specs.Rooms.{path_of}
-use Rattle.un_walk.specs.Turns.{waits, waiting_at}
-use Rattle.un_walk.proofs.Paths.{side_box}
-use Rattle.un_check.specs.Verdicts.{Keeps, KeepsIn, BreaksIn, IsFirstBreak, IsYes, IsVerdict, OnYes}
-use Rattle.un_check.specs.Walks.{IsWalk, lowered}
+use Rattle.un_check.specs.Judging.{IsBehind, IsFound, IsJudged}
+use Rattle.un_check.specs.Seen.{IsSeen}
+use Rattle.un_check.specs.Steps.{CanPass}
+use Rattle.un_check.specs.Verdicts.{Keeps, KeepsIn, IsRightNode, BreaksIn, IsFirstBreak, IsNo, IsVerdict, OnYes}
+use Rattle.un_check.specs.Walks.{IsWalk, behind, behind_of, box_of, here, here_of, lowered, outside_of, stage_waits, waiting_of}
+use Rattle.un_check.specs.declared.judge.Judged.TheVariants.{Broken, Kept, Leaf}
+use Rattle.un_check.specs.declared.stage.Stage.{Stage}
+use Rattle.un_check.specs.declared.stage.Stage.TheVariants.{AtBox, AtPart, InPart, AtEnd}
+use Rattle.un_check.specs.declared.tree.Seen.{Seen}
 use Rattle.un_check.specs.declared.verdict.TreeVerdict.{TreeVerdict}
-use Rattle.un_check.specs.declared.verdict.TreeVerdict.TheVariants.{Yes, NotStrict, NotAlive, NotClosed, Short}
+use Rattle.un_check.specs.declared.verdict.TreeVerdict.TheVariants.{Yes, NotStrict, NotSplit, NotAlive, NotClosed, Short}
 use Rattle.un_check.specs.declared.walk.Walk.{Walk}
 
 append_nil : {A : Type 0} (xs : List A) → xs ++ [] ≡ xs
@@ -56,6 +59,10 @@ module _ (m : Model) where
   own_least k (Branch v x) w h = tt
   own_least k Closed w h = tt
   own_least k Open (Whole b) h = λ l is. least_one b k l h is
+  own_least k Open (Begins j b) h = absurd h
+  own_least k Open (Inside j number b) h = absurd h
+  own_least k Split w h = absurd h
+  own_least k (Part number) w h = absurd h
 
   pub lowest_other : (ps : List Visit) (p : Visit) (least : Option ℕ) → IsLeastOpen m ps least → p.node ≢ Open
       → IsLeastOpen m (ps ++ p ∷ []) least
@@ -103,58 +110,71 @@ open_cases : (n : Node) (ns : List Node) → n ≢ Open → open_count (n ∷ ns
 open_cases (Branch v x) ns never = refl
 open_cases Closed ns never = refl
 open_cases Open ns never = absurd (never refl)
+open_cases Split ns never = refl
+open_cases (Part number) ns never = refl
 
 open_more : (m : Model) (k : ℕ) (n : Node) (w : Waiting) (ns : List Node) → HasLeast (IsLeast m) k n w → open_count (n ∷ ns) ≡ 1 + open_count ns
 open_more m k (Branch v x) w ns h = absurd h
 open_more m k Closed w ns h = absurd h
 open_more m k Open w ns h = refl
+open_more m k Split w ns h = absurd h
+open_more m k (Part number) w ns h = absurd h
+
+outer_more : (ps : List Visit) (p : Visit) → outer_count (ps ++ p ∷ []) ≡ outer_count ps + cond (is_outside p.waiting) 1 0
+outer_more [] p = omega arith
+outer_more (q ∷ ps) p = let h = outer_more ps p in omega (arith, h)
+
+-- an open leaf stands
+open_stands : (m : Model) (limit : Option ℕ) (k : ℕ) (n : Node) (w : Waiting) → HasLeast (IsLeast m) k n w
+    → StandsIn (IsBelow m limit) (IsPartBelow m) n w
+open_stands m limit k (Branch v x) w h = absurd h
+open_stands m limit k Closed w h = absurd h
+open_stands m limit k Open w h = tt
+open_stands m limit k Split w h = absurd h
+open_stands m limit k (Part number) w h = absurd h
 
 module _ (m : Model) (limit : Option ℕ) (nodes rest : List Node) (n : Node) (w : Walk) (h : IsWalk m limit nodes (n ∷ rest) w)
-    (more : w.more ≡ true) where
-  abbrev now : Waiting
-  now = Whole (reached (root_of m) (path_of w.room))
-
-  abbrev others : List Waiting
-  others = waits (root_of m) (path_of w.room)
-
+    (now : Waiting) (others : List Waiting) (more : waiting_of m w.at ≡ now ∷ others) where
   abbrev visit : Visit
   visit = record { node = n; waiting = now; place = w.place; rest = rest }
 
-  split_here : visits_of (root_of m) nodes ≡ h.done ++ visit ∷ visits (w.place + 1) rest (after n now others)
-  split_here = h.split ∙ ap (λ (b : Bool). h.done ++ visits w.place (n ∷ rest) (waiting_at (root_of m) (path_of w.room) b)) more
+  split_here : visits_in m nodes ≡ h.done ++ visit ∷ visits (blocks_of m) (w.place + 1) rest (after (blocks_of m) n now others)
+  split_here = h.split ∙ ap (λ (ws : List Waiting). h.done ++ visits (blocks_of m) w.place (n ∷ rest) ws) more
 
-  first_break : (v : TreeVerdict) → BreaksIn m limit w.place n now v → IsFirstBreak m limit (visits_of (root_of m) nodes) v
+  first_break : (v : TreeVerdict) → BreaksIn m limit w.place n now rest v → IsFirstBreak m limit (visits_in m nodes) v
   first_break v breaks = record {
     before = h.done;
     at = visit;
-    behind = visits (w.place + 1) rest (after n now others);
+    behind = visits (blocks_of m) (w.place + 1) rest (after (blocks_of m) n now others);
     split = split_here;
     kept = h.kept;
     breaks = breaks;
   }
 
   -- a node that breaks a point is the first one
-  pub broken : (v : TreeVerdict) → BreaksIn m limit w.place n now v → IsVerdict m limit nodes v
+  pub broken : (v : TreeVerdict) → BreaksIn m limit w.place n now rest v → IsNo m limit nodes v
   broken (Yes least count) breaks = absurd breaks
   broken Short breaks = absurd breaks
-  broken (NotStrict i) breaks = first_break (NotStrict i) breaks
-  broken (NotAlive i) breaks = first_break (NotAlive i) breaks
-  broken (NotClosed i) breaks = first_break (NotClosed i) breaks
+  broken (NotStrict i) breaks = (first_break (NotStrict i) breaks, tt)
+  broken (NotSplit i) breaks = (first_break (NotSplit i) breaks, tt)
+  broken (NotAlive i) breaks = (first_break (NotAlive i) breaks, tt)
+  broken (NotClosed i) breaks = (first_break (NotClosed i) breaks, tt)
 
-  module _ (q : Walk) (keeps : KeepsIn m limit n now) (next : after n now others ≡ waiting_at (root_of m) (path_of q.room) q.more)
-      (place : q.place ≡ w.place + 1) where
+  module _ (q : Walk) (keeps : KeepsIn m limit n now rest) (stands : StandsIn (IsBelow m limit) (IsPartBelow m) n now)
+      (next : after (blocks_of m) n now others ≡ waiting_of m q.at) (place : q.place ≡ w.place + 1)
+      (outer : q.outer_nodes ≡ w.outer_nodes + cond (is_outside now) 1 0) where
     walk_on : open_count nodes ≡ q.open_leaves + open_count rest → IsLeastOpen m (h.done ++ visit ∷ []) q.least → IsWalk m limit nodes rest q
     walk_on counted lowest = record {
       done = h.done ++ visit ∷ [];
-      split = split_here ∙ (sym (append_assoc h.done (visit ∷ []) (visits (w.place + 1) rest (after n now others)))
-          ∙ (ap (λ (i : ℕ). (h.done ++ visit ∷ []) ++ visits i rest (after n now others)) (sym place)
-          ∙ ap (λ (ws : List Waiting). (h.done ++ visit ∷ []) ++ visits q.place rest ws) next));
+      split = split_here ∙ (sym (append_assoc h.done (visit ∷ []) (visits (blocks_of m) (w.place + 1) rest (after (blocks_of m) n now others)))
+          ∙ (ap (λ (i : ℕ). (h.done ++ visit ∷ []) ++ visits (blocks_of m) i rest (after (blocks_of m) n now others)) (sym place)
+          ∙ ap (λ (ws : List Waiting). (h.done ++ visit ∷ []) ++ visits (blocks_of m) q.place rest ws) next));
       kept = All-push (Keeps m limit) h.done visit h.kept keeps;
-      forth = λ whole. subst (IsWhole rest) next
-          (subst (λ (b : Bool). IsWhole (n ∷ rest) (waiting_at (root_of m) (path_of w.room) b)) more (h.forth whole));
-      back = λ whole. h.back (subst (λ (b : Bool). IsWhole (n ∷ rest) (waiting_at (root_of m) (path_of w.room) b)) (sym more)
-          (subst (IsWhole rest) (sym next) whole));
+      stands = All-push (Stands (IsBelow m limit) (IsPartBelow m)) h.done visit h.stands stands;
+      forth = λ whole. subst (IsWhole (blocks_of m) rest) next (subst (IsWhole (blocks_of m) (n ∷ rest)) more (h.forth whole));
+      back = λ whole. h.back (subst (IsWhole (blocks_of m) (n ∷ rest)) (sym more) (subst (IsWhole (blocks_of m) rest) (sym next) whole));
       counted = counted;
+      outer = (let e = h.outer in let f = outer_more h.done visit in omega (arith, outer, e, f));
       lowest = lowest;
     }
 
@@ -171,78 +191,162 @@ module _ (m : Model) (limit : Option ℕ) (nodes rest : List Node) (n : Node) (w
         (let e = h.counted in let f = open_more m k n now rest is in omega (arith, e, f, count))
         (subst (IsLeastOpen m (h.done ++ visit ∷ [])) (sym least) (lowest_open m h.done visit w.least k h.lowest is))
 
+-- ---- by what was found of it
+
+-- where a stage is, or behind the end
+abbrev pub IsMore : ℕ → Sets → List Waiting → Stage → Type 0
+IsMore k b ws s = stage_waits k b ws s ≡ here b s ∷ behind k b ws s
+
+right_may : (m : Model) (limit : Option ℕ) (n : Node) (w : Waiting) (rest : List Node) → IsRightNode m limit n w rest → MayStand n w
+right_may m limit (Branch v x) w rest h = h
+right_may m limit Closed w rest h = h
+right_may m limit Open w rest h = h
+right_may m limit Split (Whole b) rest h = tt
+right_may m limit Split (Begins k b) rest h = h
+right_may m limit Split (Inside k number b) rest h = h
+right_may m limit (Part number) w rest h = h
+
+strict_has : (m : Model) (n : Node) (w : Waiting) → IsStrictIn (IsOwn m) n w → HasSidesIn n w
+strict_has m (Branch v x) (Whole b) h = h
+strict_has m (Branch v x) (Begins k b) h = tt
+strict_has m (Branch v x) (Inside k number b) h = h.0
+strict_has m Closed w h = tt
+strict_has m Open w h = tt
+strict_has m Split w h = tt
+strict_has m (Part number) w h = tt
+
+keeps_pass : (m : Model) (limit : Option ℕ) (n : Node) (w : Waiting) (rest : List Node) → KeepsIn m limit n w rest
+    → HasSidesIn n w × MayStand n w
+keeps_pass m limit n w rest k = (strict_has m n w k.strict, right_may m limit n w rest k.right)
+
+module _ (m : Model) (limit : Option ℕ) (place : ℕ) (n : Node) (rest : List Node) where
+  -- a node that keeps all points can be passed
+  pub kept_pass : (b : Sets) (s : Stage) → IsFound m limit place n rest b s Kept → CanPass b n s
+  kept_pass b AtBox f = keeps_pass m limit n (Whole b) rest f.0
+  kept_pass b (AtPart k) f = keeps_pass m limit n (Begins k b) rest f.0
+  kept_pass b (InPart k number room) f = keeps_pass m limit n (Inside k number (reached b (path_of room))) rest f.0
+  kept_pass b AtEnd f = absurd (cc f)
+
+  pub leaf_pass : (b : Sets) (s : Stage) (least : ℕ) → IsFound m limit place n rest b s (Leaf least) → CanPass b n s
+  leaf_pass b AtBox least f = keeps_pass m limit n (Whole b) rest f.0
+  leaf_pass b (AtPart k) least f = keeps_pass m limit n (Begins k b) rest f.0
+  leaf_pass b (InPart k number room) least f = keeps_pass m limit n (Inside k number (reached b (path_of room))) rest f.0
+  leaf_pass b AtEnd least f = absurd (cc f)
+
+  -- and something waits for it
+  pub kept_more : (k : ℕ) (b : Sets) (ws : List Waiting) (s : Stage) → IsFound m limit place n rest b s Kept
+      → IsMore k b ws s × IsJudged m limit place n (here b s) rest Kept
+  kept_more k b ws AtBox f = (refl, f)
+  kept_more k b ws (AtPart j) f = (refl, f)
+  kept_more k b ws (InPart j number room) f = (refl, f)
+  kept_more k b ws AtEnd f = absurd (cc f)
+
+  pub leaf_more : (k : ℕ) (b : Sets) (ws : List Waiting) (s : Stage) (least : ℕ) → IsFound m limit place n rest b s (Leaf least)
+      → IsMore k b ws s × IsJudged m limit place n (here b s) rest (Leaf least)
+  leaf_more k b ws AtBox least f = (refl, f)
+  leaf_more k b ws (AtPart j) least f = (refl, f)
+  leaf_more k b ws (InPart j number room) least f = (refl, f)
+  leaf_more k b ws AtEnd least f = absurd (cc f)
+
+module _ (m : Model) (limit : Option ℕ) (nodes rest : List Node) (n : Node) (w : Walk) (h : IsWalk m limit nodes (n ∷ rest) w) where
+  -- a node behind the end of the tree
+  past_end : waiting_of m w.at ≡ [] → IsNo m limit nodes Short
+  past_end over = (
+    record {
+      torn = λ whole. subst (IsWhole (blocks_of m) (n ∷ rest)) over (h.forth whole);
+      kept = All-same (Keeps m limit) (visits_in m nodes) h.done
+          (h.split ∙ (ap (λ (ws : List Waiting). h.done ++ visits (blocks_of m) w.place (n ∷ rest) ws) over ∙ append_nil h.done)) h.kept;
+    },
+    tt,
+  )
+
+  pub no_more : (v : TreeVerdict) → IsFound m limit w.place n rest (box_of m w.at) w.at.stage (Broken v) → IsNo m limit nodes v
+  no_more v found = by w.at.stage refl found
+    where
+      by : (s : Stage) → w.at.stage ≡ s → IsFound m limit w.place n rest (box_of m w.at) s (Broken v) → IsNo m limit nodes v
+      by AtBox is f = broken m limit nodes rest n w h (Whole (box_of m w.at)) (behind (blocks_of m) (box_of m w.at) (outside_of m w.at) AtBox)
+          (ap (stage_waits (blocks_of m) (box_of m w.at) (outside_of m w.at)) is) v f
+      by (AtPart k) is f = broken m limit nodes rest n w h (Begins k (box_of m w.at))
+          (behind (blocks_of m) (box_of m w.at) (outside_of m w.at) (AtPart k))
+          (ap (stage_waits (blocks_of m) (box_of m w.at) (outside_of m w.at)) is) v f
+      by (InPart k number room) is f = broken m limit nodes rest n w h (Inside k number (reached (box_of m w.at) (path_of room)))
+          (behind (blocks_of m) (box_of m w.at) (outside_of m w.at) (InPart k number room))
+          (ap (stage_waits (blocks_of m) (box_of m w.at) (outside_of m w.at)) is) v f
+      by AtEnd is f =
+          let e : v ≡ Short = cc f in
+          subst (IsNo m limit nodes) (sym e) (past_end (ap (stage_waits (blocks_of m) (box_of m w.at) (outside_of m w.at)) is))
+
+  module _ (q : Walk) (next : after (blocks_of m) n (here_of m w.at) (behind_of m w.at) ≡ waiting_of m q.at) (place : q.place ≡ w.place + 1)
+      (outer : q.outer_nodes ≡ w.outer_nodes + cond (is_outside (here_of m w.at)) 1 0) where
+    pub passed_other : IsFound m limit w.place n rest (box_of m w.at) w.at.stage Kept → q.open_leaves ≡ w.open_leaves → q.least ≡ w.least
+        → IsWalk m limit nodes rest q
+    passed_other found count least =
+        let j = kept_more m limit w.place n rest (blocks_of m) (box_of m w.at) (outside_of m w.at) w.at.stage found in
+        walk_other m limit nodes rest n w h (here_of m w.at) (behind_of m w.at) j.0 q j.1.0 j.1.2 next place outer j.1.1 count least
+
+    pub passed_open : (k : ℕ) → IsFound m limit w.place n rest (box_of m w.at) w.at.stage (Leaf k) → q.open_leaves ≡ w.open_leaves + 1
+        → q.least ≡ Some (lowered w.least k) → IsWalk m limit nodes rest q
+    passed_open k found count least =
+        let j = leaf_more m limit w.place n rest (blocks_of m) (box_of m w.at) (outside_of m w.at) w.at.stage k found in
+        walk_open m limit nodes rest n w h (here_of m w.at) (behind_of m w.at) j.0 q j.1.0
+        (open_stands m limit k n (here_of m w.at) j.1.1) next place outer k j.1.1 count least
+
 -- ---- the end
 
-module _ (m : Model) (limit : Option ℕ) (nodes : List Node) (w : Walk) where
-  -- a node behind the end of the tree
-  pub past_end : (n : Node) (rest : List Node) → IsWalk m limit nodes (n ∷ rest) w → w.more ≡ false → IsVerdict m limit nodes Short
-  past_end n rest h over = record {
-    torn = λ whole. subst (λ (b : Bool). IsWhole (n ∷ rest) (waiting_at (root_of m) (path_of w.room) b)) over (h.forth whole);
-    kept = All-same (Keeps m limit) (visits_of (root_of m) nodes) h.done
-        (h.split ∙ (ap (λ (b : Bool). h.done ++ visits w.place (n ∷ rest) (waiting_at (root_of m) (path_of w.room) b)) over
-        ∙ append_nil h.done)) h.kept;
-  }
+module _ (m : Model) (limit : Option ℕ) (nodes : List Node) (w : Walk) (h : IsWalk m limit nodes [] w) where
+  done_all : visits_in m nodes ≡ h.done
+  done_all = h.split ∙ append_nil h.done
 
-  all_kept : IsWalk m limit nodes [] w → All (Keeps m limit) (visits_of (root_of m) nodes)
-  all_kept h = All-same (Keeps m limit) (visits_of (root_of m) nodes) h.done (h.split ∙ append_nil h.done) h.kept
+  all_kept : All (Keeps m limit) (visits_in m nodes)
+  all_kept = All-same (Keeps m limit) (visits_in m nodes) h.done done_all h.kept
 
   -- the nodes end inside the tree
-  pub ends_inside : IsWalk m limit nodes [] w → w.more ≡ true → IsVerdict m limit nodes Short
-  ends_inside h more = record {
-    torn = λ whole. absurd (let e : Whole (reached (root_of m) (path_of w.room)) ∷ waits (root_of m) (path_of w.room) ≡ [] =
-        subst (λ (b : Bool). IsWhole [] (waiting_at (root_of m) (path_of w.room) b)) more (h.forth whole) in cc e);
-    kept = all_kept h;
-  }
+  pub ends_inside : (waiting_of m w.at ≡ [] → ⊥) → IsNo m limit nodes Short
+  ends_inside some = (record { torn = λ whole. some (h.forth whole); kept = all_kept }, tt)
 
   -- they end with it
-  pub ends_well : IsWalk m limit nodes [] w → w.more ≡ false → IsVerdict m limit nodes (Yes w.least w.open_leaves)
-  ends_well h over = record {
-    whole = h.back (subst (λ (b : Bool). IsWhole [] (waiting_at (root_of m) (path_of w.room) b)) (sym over) refl);
-    kept = all_kept h;
-    lowest = subst (λ (ps : List Visit). IsLeastOpen m ps w.least) (sym (h.split ∙ append_nil h.done)) h.lowest;
-    counted = (let e = h.counted in omega (arith, e));
-  }
+  module _ (over : waiting_of m w.at ≡ []) where
+    whole_here : IsTreeIn m nodes
+    whole_here = h.back over
 
--- ---- a tree that keeps all points stands
+    ends_well : IsVerdict m limit nodes (Yes w.least w.open_leaves)
+    ends_well = record {
+      whole = whole_here;
+      kept = all_kept;
+      lowest = subst (λ (ps : List Visit). IsLeastOpen m ps w.least) (sym done_all) h.lowest;
+      counted = (let e = h.counted in omega (arith, e));
+    }
 
-abbrev AllBoxes : Sets → List Waiting → Type 0
-AllBoxes root [] = Unit {0}
-AllBoxes root (Whole b ∷ ws) = IsBox root b × AllBoxes root ws
+    -- and a tree that keeps all points stands
+    standing : IsStanding m limit nodes
+    standing = record {
+      whole = whole_here;
+      strict = All-weaker (Keeps m limit) (IsStrict (IsOwn m)) (λ v k. k.strict) (visits_in m nodes) all_kept;
+      right = All-weaker (Keeps m limit) (IsRight (AreJoined m) (blocks_of m) limit) (λ v k. k.right) (visits_in m nodes) all_kept;
+      alive = All-weaker (Keeps m limit) (IsAlive m limit) (λ v k. k.alive) (visits_in m nodes) all_kept;
+      stands = All-same (Stands (IsBelow m limit) (IsPartBelow m)) (visits_in m nodes) h.done done_all h.stands;
+    }
 
-module _ (m : Model) (limit : Option ℕ) (p : IsPosted m limit) where
-  all_stand : (i : ℕ) (ns : List Node) (ws : List Waiting) → AllBoxes (root_of m) ws → AllByRecursion (Keeps m limit) (visits i ns ws)
-      → AllByRecursion (Stands (IsBelow m limit)) (visits i ns ws)
-  all_stand i [] ws boxes keep = tt
-  all_stand i (n ∷ ns) [] boxes keep = tt
-  all_stand i (Branch v x ∷ ns) (Whole b ∷ ws) boxes keep = (
-    tt,
-    all_stand (i + 1) ns (Whole (half b v x AtMost) ∷ Whole (half b v x Above) ∷ ws) (
-      side_box (root_of m) b (record { var = v; val = x; side = AtMost }) AtMost boxes.0 keep.0.strict,
-      (side_box (root_of m) b (record { var = v; val = x; side = Above }) Above boxes.0 keep.0.strict, boxes.1),
-    )
-        keep.1,
-  )
-  all_stand i (Closed ∷ ns) (Whole b ∷ ws) boxes keep = (
-    λ x there good. posted_keeps m limit p.props p.are b x boxes.0 there good keep.0.lost,
-    all_stand (i + 1) ns ws boxes.1 keep.1,
-  )
-  all_stand i (Open ∷ ns) (Whole b ∷ ws) boxes keep = (tt, all_stand (i + 1) ns ws boxes.1 keep.1)
+    pub seen_well : IsSeen m limit nodes (record { verdict = Yes w.least w.open_leaves; outer_nodes = w.outer_nodes })
+    seen_well = record {
+      verdict = ends_well;
+      standing = standing;
+      outer = h.outer ∙ ap outer_count (sym done_all);
+    }
 
-  standing : (nodes : List Node) (least : Option ℕ) (count : ℕ) → NoneEmpty (root_of m) → IsYes m limit nodes least count
-      → IsStanding m limit nodes
-  standing nodes least count full y = record {
-    whole = y.whole;
-    strict = All-weaker (Keeps m limit) IsStrict (λ v k. k.strict) (visits_of (root_of m) nodes) y.kept;
-    alive = All-weaker (Keeps m limit) (IsAlive m limit) (λ v k. k.alive) (visits_of (root_of m) nodes) y.kept;
-    stands = All-from_recursion (Stands (IsBelow m limit)) (visits_of (root_of m) nodes)
-        (all_stand 0 nodes (Whole (root_of m) ∷ []) ((Below-refl (root_of m), full), tt)
-        (recursion_from_All (Keeps m limit) (visits_of (root_of m) nodes) y.kept));
-  }
+-- what is so where all is well is asked of nothing else
+no_asks : (P : Type 0) (v : TreeVerdict) → OnYes ⊥ v → OnYes P v
+no_asks P (Yes least count) never = absurd never
+no_asks P (NotStrict i) never = tt
+no_asks P (NotSplit i) never = tt
+no_asks P (NotAlive i) never = tt
+no_asks P (NotClosed i) never = tt
+no_asks P Short never = tt
 
-  pub yes_stands : (nodes : List Node) (v : TreeVerdict) → NoneEmpty (root_of m) → IsVerdict m limit nodes v
-      → OnYes (IsStanding m limit nodes) v
-  yes_stands nodes (Yes least count) full y = standing nodes least count full y
-  yes_stands nodes (NotStrict i) full y = tt
-  yes_stands nodes (NotAlive i) full y = tt
-  yes_stands nodes (NotClosed i) full y = tt
-  yes_stands nodes Short full y = tt
+pub no_seen : (m : Model) (limit : Option ℕ) (nodes : List Node) (v : TreeVerdict) (outer : ℕ) → IsNo m limit nodes v
+    → IsSeen m limit nodes (record { verdict = v; outer_nodes = outer })
+no_seen m limit nodes v outer h = record {
+  verdict = h.0;
+  standing = no_asks (IsStanding m limit nodes) v h.1;
+  outer = no_asks (outer ≡ outer_count (visits_in m nodes)) v h.1;
+}

@@ -6,7 +6,7 @@ use Rattle.std.specs.declared.result.Result.{Result}
 use Rattle.un_isa.specs.declared.table.Table.{Table}
 use Rattle.un_ir.specs.declared.function.Function.{Function}
 use Rattle.un_outside.specs.declared.status.NoCause.{NoCause}
-use Rattle.un_outside.specs.declared.status.NoCause.TheVariants.{Name, Solution as Numbers, Cost, Listing, Strict, Alive, Closed as Refuted}
+use Rattle.un_outside.specs.declared.status.NoCause.TheVariants.{Name, Solution as Numbers, Cost, Listing, Strict, Split as Parted, Alive, Closed as Refuted}
 use Rattle.un_outside.specs.declared.status.NoCause.TheVariants.{Mirror, Short as Torn, Spent as Leaves, Bound}
 use Rattle.un_packet.specs.declared.code.Code.{Code as CodeValue}
 use Rattle.un_model.specs.Cost.{cost_of}
@@ -17,17 +17,17 @@ use Rattle.un_model.specs.declared.model.Solution.{Solution}
 use Rattle.un_problem.specs.Problems.{IsModelOf}
 use Rattle.un_emit.specs.Emitted.{IsEmitted}
 use Rattle.un_tree.specs.Texts.{Fits, tree_text}
-use Rattle.un_tree.specs.Waits.{IsOdd, visits_of}
+use Rattle.un_tree.specs.Waits.{IsOdd, outer_count}
 use Rattle.un_tree.specs.declared.node.Node.{Node}
 use Rattle.un_tree.specs.declared.node.Node.TheVariants.{Open}
 use Rattle.un_certificate.specs.Bounds.{IsBound}
-use Rattle.un_model.specs.Boxes.{root_of}
+use Rattle.un_certificate.specs.Joints.{visits_in}
 use Rattle.un_report.specs.declared.report.Answered.{Answered}
 use Rattle.un_report.specs.declared.report.Answered.TheVariants.{Code, Infeasible, Spent}
 use Rattle.un_report.specs.declared.report.Report.{Report}
 use Rattle.un_report.specs.declared.view.ReportView.{ReportView}
 use Rattle.un_check.specs.Verdicts.{IsVerdict, IsYes}
-use Rattle.un_check.specs.declared.verdict.TreeVerdict.TheVariants.{NotStrict, NotAlive, NotClosed, Short}
+use Rattle.un_check.specs.declared.verdict.TreeVerdict.TheVariants.{NotStrict, NotSplit, NotAlive, NotClosed, Short}
 
 -- what a report claims of a function: its name, how many nodes the search was given, its answer and its tree
 pub record Claim : Type 0 where
@@ -93,6 +93,7 @@ pub record IsRightTree (m : Model) (limit : Option ℕ) (t : List Node) : Type 0
 -- why a tree is not accepted
 abbrev pub IsTreeCause : Model → Option ℕ → List Node → NoCause → Type 0
 IsTreeCause m limit t (Strict i) = IsVerdict m limit t (NotStrict i)
+IsTreeCause m limit t (Parted i) = IsVerdict m limit t (NotSplit i)
 IsTreeCause m limit t (Alive i) = IsVerdict m limit t (NotAlive i)
 IsTreeCause m limit t (Refuted i) = IsVerdict m limit t (NotClosed i)
 IsTreeCause m limit t Torn = IsVerdict m limit t Short
@@ -104,14 +105,14 @@ FitsAnswer (Code cost bound code s) t = ⊤
 FitsAnswer Infeasible t = All (λ n. n ≢ Open) t
 FitsAnswer Spent t = Contains t Open
 
--- where a leaf is open, the tree has as many of so many nodes as a tree can have
-pub record HasRightLeaves (nodes : ℕ) (a : Answered) (t : List Node) : Type 0 where
-  pub used : Contains t Open → IsOdd (length t) nodes
+-- where a leaf is open, the tree has as many of so many nodes as a tree can have; those in parts do not count
+pub record HasRightLeaves (m : Model) (nodes : ℕ) (a : Answered) (t : List Node) : Type 0 where
+  pub used : Contains t Open → IsOdd (outer_count (visits_in m t)) nodes
   pub fits : FitsAnswer a t
 
 -- the bound of code is the tree's
 abbrev pub HasRightBound : Model → Answered → List Node → Type 0
-HasRightBound m (Code cost bound code s) t = IsBound m cost (visits_of (root_of m) t) bound
+HasRightBound m (Code cost bound code s) t = IsBound m cost (visits_in m t) bound
 HasRightBound m Infeasible t = ⊤
 HasRightBound m Spent t = ⊤
 
@@ -129,7 +130,7 @@ module _ (name : List ℕ) (m : Model) (r : Claim) where
   -- and up to the leaves and the bound
   pub record IsRight : Type 0 where
     pub body : IsRightBody
-    pub leaves : HasRightLeaves r.nodes r.answer r.tree
+    pub leaves : HasRightLeaves m r.nodes r.answer r.tree
     pub bound : HasRightBound m r.answer r.tree
 
   -- the first cause that stands, for a function of this name with this model; no report has mirror leaves
@@ -139,12 +140,13 @@ module _ (name : List ℕ) (m : Model) (r : Claim) where
   IsCause Cost = (r.name ≡ name) × IsAnswerCause m r.answer Cost
   IsCause Listing = (r.name ≡ name) × IsAnswerCause m r.answer Listing
   IsCause (Strict i) = IsRightHead × IsTreeCause m (limit_of r.answer) r.tree (Strict i)
+  IsCause (Parted i) = IsRightHead × IsTreeCause m (limit_of r.answer) r.tree (Parted i)
   IsCause (Alive i) = IsRightHead × IsTreeCause m (limit_of r.answer) r.tree (Alive i)
   IsCause (Refuted i) = IsRightHead × IsTreeCause m (limit_of r.answer) r.tree (Refuted i)
   IsCause (Mirror i) = ⊥
   IsCause Torn = IsRightHead × IsTreeCause m (limit_of r.answer) r.tree Torn
-  IsCause Leaves = IsRightBody × (HasRightLeaves r.nodes r.answer r.tree → ⊥)
-  IsCause Bound = IsRightBody × HasRightLeaves r.nodes r.answer r.tree × (HasRightBound m r.answer r.tree → ⊥)
+  IsCause Leaves = IsRightBody × (HasRightLeaves m r.nodes r.answer r.tree → ⊥)
+  IsCause Bound = IsRightBody × HasRightLeaves m r.nodes r.answer r.tree × (HasRightBound m r.answer r.tree → ⊥)
 
   -- an answer to the report: all is right, or the first cause that stands
   abbrev pub IsToldBy : Result (Unit {0}) NoCause → Type 0

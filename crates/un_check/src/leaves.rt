@@ -1,19 +1,21 @@
 //! Whether the tree of a report shows what its answer says.
 
-ghost use Rattle.std.specs.Prelude.{◌≡◌, ◌↔◌, ℕ, List, Option, All, IsTrue, Contains, OnOk, MatchResult, length};
+ghost use Rattle.std.specs.Prelude.{◌≡◌, ◌↔◌, ℕ, List, Option, IsTrue, Contains, OnOk, MatchResult, All};
 ghost use Rattle.un_model.specs.declared.model.Model.{Model};
 ghost use Rattle.un_bound.specs.Arcs.{IsShort};
 ghost use Rattle.un_problem.specs.Problems.{IsProblemOf};
 ghost use Rattle.un_post.specs.Postable.{IsPostable};
-ghost use Rattle.un_tree.specs.Waits.{IsOdd, open_count, visits_of};
+ghost use Rattle.un_tree.specs.Waits.{IsOdd, open_count, outer_count};
 ghost use Rattle.un_tree.specs.declared.node.Node.{Node};
 ghost use Rattle.un_tree.specs.declared.node.Node.TheVariants.{Open};
 ghost use Rattle.un_certificate.specs.Bounds.{IsLeastOpen};
 ghost use Rattle.un_certificate.specs.Certificates.{IsStanding};
-ghost use Rattle.un_model.specs.Boxes.{root_of};
+ghost use Rattle.un_certificate.specs.Joints.{visits_in};
 ghost use Rattle.un_check.specs.Causes.{FitsAnswer, HasRightBound, HasRightLeaves, IsRightHead, IsToldBy, IsTreeCause, limit_of};
-ghost use Rattle.un_check.specs.Verdicts.{IsVerdict, IsYes, OnYes};
+ghost use Rattle.un_check.specs.Seen.{IsSeen};
+ghost use Rattle.un_check.specs.Verdicts.{IsYes};
 
+use crate::tree::Seen;
 use crate::verdict::TreeVerdict;
 use un_certificate::bound::bound_of;
 use un_ir::function::Function;
@@ -40,21 +42,20 @@ pub fn limit_of(answer: &Answered) -> Option<u64>
 }
 
 /// Whether a number is the greatest odd one of at most so many nodes.
-fn is_odd(count: usize, nodes: usize) -> bool
+fn is_odd(count: u32, nodes: u32) -> bool
     ensures { IsTrue result ↔ IsOdd count nodes }
 {
     count % 2 == 1 && count <= nodes && nodes - count < 2
 }
 
-/// Whether a tree has as many of so many nodes as it can have, where a leaf is open.
-fn uses_nodes(nodes: u32, count: usize, open_leaves: u32) -> bool
-    ensures { (t : List Node) → length t ≡ count → open_leaves ≡ open_count t
-        → (IsTrue result ↔ (Contains t Open → IsOdd (length t) nodes)) }
+/// Whether a tree has as many of so many nodes as it can have, where a leaf is open. Those in parts do not count.
+fn uses_nodes(nodes: u32, outer_nodes: u32, open_leaves: u32) -> bool
+    ensures { (t : List Node) → open_leaves ≡ open_count t → (IsTrue result ↔ (Contains t Open → IsOdd outer_nodes nodes)) }
 {
     if open_leaves == 0 {
         return true;
     }
-    is_odd(count, nodes as usize)
+    is_odd(outer_nodes, nodes)
 }
 
 /// Whether an answer fits the number of open leaves.
@@ -69,17 +70,18 @@ fn fits_answer(answer: &Answered, open_leaves: u32) -> bool
 }
 
 /// Whether the open leaves of a tree are right.
-fn has_right_leaves(nodes: u32, answer: &Answered, count: usize, open_leaves: u32) -> bool
-    ensures { (t : List Node) → length t ≡ count → open_leaves ≡ open_count t → (IsTrue result ↔ HasRightLeaves nodes answer.now t) }
+fn has_right_leaves(nodes: u32, answer: &Answered, outer_nodes: u32, open_leaves: u32) -> bool
+    ensures { (m : Model) (t : List Node) → outer_nodes ≡ outer_count (visits_in m t) → open_leaves ≡ open_count t
+        → (IsTrue result ↔ HasRightLeaves m nodes answer.now t) }
 {
-    uses_nodes(nodes, count, open_leaves) && fits_answer(answer, open_leaves)
+    uses_nodes(nodes, outer_nodes, open_leaves) && fits_answer(answer, open_leaves)
 }
 
 /// Whether the bound of an answer is the tree's.
 fn has_right_bound(m: &Model, answer: &Answered, least: Option<u64>) -> bool
     requires postable { IsPostable m.now }
     requires short { All IsShort m.now.ext.blocks }
-    ensures { (t : List Node) → IsLeastOpen m.now (visits_of (root_of m.now) t) least
+    ensures { (t : List Node) → IsLeastOpen m.now (visits_in m.now t) least
         → (IsTrue result ↔ HasRightBound m.now answer.now t) }
 {
     match answer {
@@ -89,21 +91,22 @@ fn has_right_bound(m: &Model, answer: &Answered, least: Option<u64>) -> bool
     }
 }
 
-/// Whether the open leaves of a tree that keeps all points, and the bound of the answer, are right.
+/// Whether the open leaves of a tree that keeps all points, and the bound of the answer, are right. The tree has so many nodes in no part.
 fn judge_leaves(
     f: &Function,
     m: &Model,
     nodes: u32,
     answer: &Answered,
-    count: usize,
+    outer_nodes: u32,
     leaves: Leaves,
 ) -> Result<(), NoCause>
     requires problem { IsProblemOf f.now m.now }
-    ensures { (name : List ℕ) (t : List Node) → length t ≡ count → IsYes m.now (limit_of answer.now) t leaves.least leaves.count
+    ensures { (name : List ℕ) (t : List Node) → outer_nodes ≡ outer_count (visits_in m.now t)
+        → IsYes m.now (limit_of answer.now) t leaves.least leaves.count
         → IsRightHead f.now.name m.now (record { name = name; nodes = nodes; answer = answer.now; tree = t })
         → IsToldBy f.now.name m.now (record { name = name; nodes = nodes; answer = answer.now; tree = t }) result }
 {
-    if !has_right_leaves(nodes, answer, count, leaves.count) {
+    if !has_right_leaves(nodes, answer, outer_nodes, leaves.count) {
         return Err(NoCause::Spent);
     }
     if !has_right_bound(m, answer, leaves.least) {
@@ -113,43 +116,44 @@ fn judge_leaves(
 }
 
 /// The open leaves of a tree that keeps all points, or which point it breaks.
-fn leaves_of(verdict: TreeVerdict) -> Result<Leaves, NoCause>
-    ensures told { (m : Model) (limit : Option ℕ) (t : List Node) → IsVerdict m limit t verdict
+fn leaves_of(seen: Seen) -> Result<Leaves, NoCause>
+    ensures told { (m : Model) (limit : Option ℕ) (t : List Node) → IsSeen m limit t seen
         → MatchResult result (λ leaves. IsYes m limit t leaves.least leaves.count) (IsTreeCause m limit t) }
-    ensures standing { (m : Model) (limit : Option ℕ) (t : List Node) → OnYes (IsStanding m limit t) verdict
-        → OnOk result (IsStanding m limit t) }
+    ensures outer { (m : Model) (limit : Option ℕ) (t : List Node) → IsSeen m limit t seen
+        → OnOk result (seen.outer_nodes ≡ outer_count (visits_in m t)) }
+    ensures standing { (m : Model) (limit : Option ℕ) (t : List Node) → IsSeen m limit t seen → OnOk result (IsStanding m limit t) }
 {
-    match verdict {
+    match seen.verdict {
         TreeVerdict::Yes { least, open_leaves } => Ok(Leaves {
             least,
             count: open_leaves,
         }),
         TreeVerdict::NotStrict(place) => Err(NoCause::Strict(place)),
+        TreeVerdict::NotSplit(place) => Err(NoCause::Split(place)),
         TreeVerdict::NotAlive(place) => Err(NoCause::Alive(place)),
         TreeVerdict::NotClosed(place) => Err(NoCause::Closed(place)),
         TreeVerdict::Short => Err(NoCause::Short),
     }
 }
 
-/// Whether the tree of a report shows what its answer says, from the verdict on its tree and the number of its nodes. The name, the
-/// numbers, the cost and the listing are right.
+/// Whether the tree of a report shows what its answer says, from what was seen of it. The name, the numbers, the cost and the listing are
+/// right.
 pub(crate) fn judge_tree(
     f: &Function,
     m: &Model,
     nodes: u32,
     answer: &Answered,
-    count: usize,
-    verdict: TreeVerdict,
+    seen: Seen,
 ) -> Result<(), NoCause>
     requires problem { IsProblemOf f.now m.now }
-    ensures told { (name : List ℕ) (t : List Node) → length t ≡ count → IsVerdict m.now (limit_of answer.now) t verdict
+    ensures told { (name : List ℕ) (t : List Node) → IsSeen m.now (limit_of answer.now) t seen
         → IsRightHead f.now.name m.now (record { name = name; nodes = nodes; answer = answer.now; tree = t })
         → IsToldBy f.now.name m.now (record { name = name; nodes = nodes; answer = answer.now; tree = t }) result }
-    ensures standing { (t : List Node) → OnYes (IsStanding m.now (limit_of answer.now) t) verdict
+    ensures standing { (t : List Node) → IsSeen m.now (limit_of answer.now) t seen
         → OnOk result (IsStanding m.now (limit_of answer.now) t) }
 {
-    match leaves_of(verdict) {
+    match leaves_of(seen) {
         Err(cause) => Err(cause),
-        Ok(leaves) => judge_leaves(f, m, nodes, answer, count, leaves),
+        Ok(leaves) => judge_leaves(f, m, nodes, answer, seen.outer_nodes, leaves),
     }
 }

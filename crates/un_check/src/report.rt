@@ -14,7 +14,7 @@ ghost use Rattle.un_check.specs.Sound.{IsSound, IsSoundFor};
 
 use crate::answer::judge_head;
 use crate::leaves::{judge_tree, limit_of};
-use crate::tree::{check_lines, check_tree};
+use crate::tree::{see_lines, see_tree};
 use std::alloc::Global;
 use un_base::memory_error::NoMemory;
 use un_ir::function::Function;
@@ -40,15 +40,8 @@ fn check_by(
     match head {
         Err(cause) => Ok(Err(cause)),
         Ok(()) => {
-            let verdict = check_tree(alloc, m, limit_of(&r.answer), &r.tree)?;
-            Ok(judge_tree(
-                f,
-                m,
-                r.nodes,
-                &r.answer,
-                r.tree.nodes.as_slice().len(),
-                verdict,
-            ))
+            let seen = see_tree(alloc, m, limit_of(&r.answer), r.tree.nodes.as_slice())?;
+            Ok(judge_tree(f, m, r.nodes, &r.answer, seen))
         }
     }
 }
@@ -89,14 +82,14 @@ fn check_view_by(
     match head {
         Err(cause) => Ok(Err(cause)),
         Ok(()) => {
-            let verdict = check_lines(alloc, m, limit_of(&v.answer), v.tree)?;
-            Ok(judge_tree(f, m, v.nodes, &v.answer, v.count as usize, verdict))
+            let seen = see_lines(alloc, m, limit_of(&v.answer), v.tree)?;
+            Ok(judge_tree(f, m, v.nodes, &v.answer, seen))
         }
     }
 }
 
 /// The check of a view of a report on a function by a table of the processor, whatever the report's version: what is said of its code and of
-/// its bound is by this table. It goes through the lines of the tree once.
+/// its bound is by this table. It goes through the lines of the tree once, and through those of parts twice.
 ///
 /// # Errors
 /// Where memory is short, or there are more nodes, variables or operations than numbers below 2^32.

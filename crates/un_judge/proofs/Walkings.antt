@@ -11,11 +11,11 @@ use Rattle.un_base.specs.Lines.{is_line_feed, pieces_of}
 use Rattle.un_domains.specs.Sets.{Sets, IsIn}
 use Rattle.un_model.specs.Boxes.{IsBelow, root_of}
 use Rattle.un_tree.specs.Boxes.{Splits, reached}
-use Rattle.un_tree.specs.Covered.{Stands, StandsIn}
-use Rattle.un_tree.specs.Waits.{Waiting, Whole, Visit, IsWhole, IsTreeOf, IsStrict, IsStrictIn, after, visits, visits_of}
+use Rattle.un_tree.specs.Covered.{OuterStands, OuterStandsIn}
+use Rattle.un_tree.specs.Waits.{Waiting, Whole, Visit, IsWhole, IsTreeOf, IsPlain, HasSides, HasSidesIn, after, visits, visits_of}
 use Rattle.un_tree.specs.declared.node.Decision.{Decision}
 use Rattle.un_tree.specs.declared.node.Node.{Node}
-use Rattle.un_tree.specs.declared.node.Node.TheVariants.{Branch, Closed, Open}
+use Rattle.un_tree.specs.declared.node.Node.TheVariants.{Branch, Closed, Open, Split, Part}
 use Rattle.un_walk.specs.Finished.{NoneIn}
 use Rattle.un_walk.specs.Routes.{branch_at}
 use Rattle.un_walk.specs.Stands.{AllSplit, IsStandAt, ways}
@@ -24,7 +24,7 @@ use Rattle.un_walk.specs.declared.stand.Stand.{Stand}
 use Rattle.un_walk.proofs.Paths.{last_once}
 use Rattle.un_judge.specs.Judged.{Comes, IsJudged, closed_by, closed_box, closed_boxes, OnYes}
 use Rattle.un_judge.specs.Leaves.{LeftComes, EndComes, OnClosed}
-use Rattle.un_judge.specs.Walks.{NotYes, TextComes, Passes, waits_of, IsWalk}
+use Rattle.un_judge.specs.Walks.{NotYes, TextComes, Passes, waits_of, blocks_of, IsWalk}
 use Rattle.un_judge.specs.declared.judge.Walk.{Walk}
 use Rattle.un_judge.specs.declared.leaf.Left.{Left}
 use Rattle.un_judge.specs.declared.leaf.LeafEnd.{LeafEnd}
@@ -51,10 +51,15 @@ stand_back root s q h path marks =
 pub one_box : (root : Sets) (s q : Stand) → IsStandAt root s → IsStandAt root q → q.path.items ≡ s.path.items → q.cuts.sets ≡ s.cuts.sets
 one_box root s q h k path = k.sets ∙ (ap (reached root) path ∙ sym h.sets)
 
-pub splits_by : (n : Node) (b : Sets) (o : Option (VarId × ℕ)) → o ≡ branch_at n → IsStrictIn n (Whole b) → IfSome o (λ x. Splits b x.0 x.1)
-splits_by (Branch v x) b o e strict = subst (λ (k : Option (VarId × ℕ)). IfSome k (λ y. Splits b y.0 y.1)) (sym e) strict
-splits_by Closed b o e strict = subst (λ (k : Option (VarId × ℕ)). IfSome k (λ y. Splits b y.0 y.1)) (sym e) tt
-splits_by Open b o e strict = subst (λ (k : Option (VarId × ℕ)). IfSome k (λ y. Splits b y.0 y.1)) (sym e) tt
+pub splits_by : (n : Node) (b : Sets) (o : Option (VarId × ℕ)) → o ≡ branch_at n → HasSidesIn n (Whole b) → IfSome o (λ x. Splits b x.0 x.1)
+splits_by n b o e strict = subst (λ (k : Option (VarId × ℕ)). IfSome k (λ y. Splits b y.0 y.1)) (sym e) (by n strict)
+  where
+    by : (n : Node) → HasSidesIn n (Whole b) → IfSome (branch_at n) (λ y. Splits b y.0 y.1)
+    by (Branch v x) strict = strict
+    by Closed strict = tt
+    by Open strict = tt
+    by Split strict = tt
+    by (Part number) strict = tt
 
 -- a mark leaves something to take back
 pub some_marked : (old new : List Sets) (b : Sets) → new ≡ old ++ b ∷ [] → 0 < length new
@@ -89,13 +94,13 @@ module _ (r : Rules) (nodes : List Node) (log : List ℕ) (n : Node) (rest : Lis
     now = Whole (reached root path)
 
     abbrev behind : List Waiting
-    behind = after n now (waits root path)
+    behind = after (blocks_of r) n now (waits root path)
 
     abbrev visit : Visit
     visit = record { node = n; waiting = now; place = h.place; rest = rest }
 
     abbrev visits_behind : List Visit
-    visits_behind = visits (h.place + 1) rest behind
+    visits_behind = visits (blocks_of r) (h.place + 1) rest behind
 
     abbrev below : List ℕ → Type 0
     below = IsBelow r.m.now r.limit
@@ -104,25 +109,32 @@ module _ (r : Rules) (nodes : List Node) (log : List ℕ) (n : Node) (rest : Lis
     more : old.more ≡ true
     more = by old.more h.whole
       where
-        by : (b : Bool) → IsWhole (n ∷ rest) (waiting_at root path b) → b ≡ true
+        by : (b : Bool) → IsWhole (blocks_of r) (n ∷ rest) (waiting_at root path b) → b ≡ true
         by true whole = refl
         by false whole = absurd whole
 
-    here : visits h.place (n ∷ rest) (waits_of r old) ≡ visit ∷ visits_behind
-    here = ap (λ (b : Bool). visits h.place (n ∷ rest) (waiting_at root path b)) more
+    here : visits (blocks_of r) h.place (n ∷ rest) (waits_of r old) ≡ visit ∷ visits_behind
+    here = ap (λ (b : Bool). visits (blocks_of r) h.place (n ∷ rest) (waiting_at root path b)) more
 
-    whole_behind : IsWhole rest behind
-    whole_behind = subst (λ (b : Bool). IsWhole (n ∷ rest) (waiting_at root path b)) more h.whole
+    whole_behind : IsWhole (blocks_of r) rest behind
+    whole_behind = subst (λ (b : Bool). IsWhole (blocks_of r) (n ∷ rest) (waiting_at root path b)) more h.whole
 
-    strict_both : AllByRecursion IsStrict (visit ∷ visits_behind)
-    strict_both = subst (AllByRecursion IsStrict) here h.strict
+    strict_both : AllByRecursion HasSides (visit ∷ visits_behind)
+    strict_both = subst (AllByRecursion HasSides) here h.strict
+
+    plain_both : AllByRecursion IsPlain (n ∷ rest)
+    plain_both = h.plain
+
+    -- the node is none of a Split or its parts
+    pub plain_here : IsPlain n
+    plain_here = plain_both.0
 
     box_is : old.stand.cuts.sets ≡ reached root path
     box_is = let a = h.at in a.sets
 
     -- the node is strict in the stand's box
-    pub strict_here : IsStrictIn n (Whole old.stand.cuts.sets)
-    strict_here = subst (λ (b : Sets). IsStrictIn n (Whole b)) (sym box_is) strict_both.0
+    pub strict_here : HasSidesIn n (Whole old.stand.cuts.sets)
+    strict_here = subst (λ (b : Sets). HasSidesIn n (Whole b)) (sym box_is) strict_both.0
 
     comes_here : (verdict : StepVerdict)
         → LeftComes r old.left (closed_by n (Whole old.stand.cuts.sets) ++ flat_map closed_box visits_behind) verdict
@@ -138,25 +150,26 @@ module _ (r : Rules) (nodes : List Node) (log : List ℕ) (n : Node) (rest : Lis
 
     -- none: the walk goes on
     pub walk_on : (mid new : Walk) → Passes r n old mid None → IsStandAt root new.stand → new.left ≡ mid.left
-        → after n (Whole mid.stand.cuts.sets) (waits root mid.stand.path.items) ≡ waits_of r new → mid.stand.path.items ≡ path
+        → after (blocks_of r) n (Whole mid.stand.cuts.sets) (waits root mid.stand.path.items) ≡ waits_of r new → mid.stand.path.items ≡ path
         → mid.stand.cuts.sets ≡ old.stand.cuts.sets → IsWalk r nodes log rest new
     walk_on mid new p at left waits_are same_path same_box =
         let next : behind ≡ waits_of r new =
-        ap (λ (b : Sets). after n (Whole b) (waits root path)) (sym (same_box ∙ box_is))
-        ∙ (ap (λ (ds : List Decision). after n (Whole mid.stand.cuts.sets) (waits root ds)) (sym same_path) ∙ waits_are) in
+        ap (λ (b : Sets). after (blocks_of r) n (Whole b) (waits root path)) (sym (same_box ∙ box_is))
+        ∙ (ap (λ (ds : List Decision). after (blocks_of r) n (Whole mid.stand.cuts.sets) (waits root ds)) (sym same_path) ∙ waits_are) in
         let strict = strict_both.1 in
         record {
           at = at;
           place = h.place + 1;
-          whole = subst (IsWhole rest) next whole_behind;
-          strict = subst (λ (ws : List Waiting). AllByRecursion IsStrict (visits (h.place + 1) rest ws)) next strict;
-          stands = λ all. h.stands (subst (AllByRecursion (Stands below)) (sym here) (
-            subst (λ (b : Sets). StandsIn below n (Whole b)) box_is p.refuted,
-            subst (λ (ws : List Waiting). AllByRecursion (Stands below) (visits (h.place + 1) rest ws)) (sym next) all,
+          whole = subst (IsWhole (blocks_of r) rest) next whole_behind;
+          plain = plain_both.1;
+          strict = subst (λ (ws : List Waiting). AllByRecursion HasSides (visits (blocks_of r) (h.place + 1) rest ws)) next strict;
+          stands = λ all. h.stands (subst (AllByRecursion (OuterStands below)) (sym here) (
+            subst (λ (b : Sets). OuterStandsIn below n (Whole b)) box_is p.refuted,
+            subst (λ (ws : List Waiting). AllByRecursion (OuterStands below) (visits (blocks_of r) (h.place + 1) rest ws)) (sym next) all,
           ));
           comes = λ verdict c. comes_here verdict (p.comes (flat_map closed_box visits_behind) verdict
-              (subst (λ (ws : List Waiting). LeftComes r mid.left (flat_map closed_box (visits (h.place + 1) rest ws)) verdict) (sym next)
-              (subst (λ (l : Left). LeftComes r l (flat_map closed_box (visits (h.place + 1) rest (waits_of r new))) verdict) left c)));
+              (subst (λ (ws : List Waiting). LeftComes r mid.left (flat_map closed_box (visits (blocks_of r) (h.place + 1) rest ws)) verdict) (sym next)
+              (subst (λ (l : Left). LeftComes r l (flat_map closed_box (visits (blocks_of r) (h.place + 1) rest (waits_of r new))) verdict) left c)));
         }
 
 pub next_walk : (r : Rules) (nodes : List Node) (log : List ℕ) (read : List Node) (i : ℕ) (d : Node) (w : Walk) → read ≡ nodes
@@ -196,23 +209,24 @@ if_so A Short h = tt
 -- ---- the first node and the last
 
 pub walk_first : (r : Rules) (nodes : List Node) (log : List ℕ) (w : Walk) → IsStandAt (root_of r.m.now) w.stand → w.stand.path.items ≡ []
-    → w.more ≡ true → w.left.text.now ≡ log → w.left.read ≡ 0 → IsTreeOf (root_of r.m.now) nodes
-    → All IsStrict (visits_of (root_of r.m.now) nodes) → IsWalk r nodes log nodes w
-walk_first r nodes log w at path more text read whole strict =
+    → w.more ≡ true → w.left.text.now ≡ log → w.left.read ≡ 0 → IsTreeOf (blocks_of r) (root_of r.m.now) nodes → All IsPlain nodes
+    → All HasSides (visits_of (blocks_of r) (root_of r.m.now) nodes) → IsWalk r nodes log nodes w
+walk_first r nodes log w at path more text read whole plain strict =
     let root = root_of r.m.now in
     let first : waits_of r w ≡ Whole root ∷ [] =
     ap (waiting_at root w.stand.path.items) more ∙ ap (λ (ds : List Decision). waiting_at root ds true) path in
     record {
       at = at;
       place = 0;
-      whole = subst (IsWhole nodes) (sym first) whole;
-      strict = subst (λ (ws : List Waiting). AllByRecursion IsStrict (visits 0 nodes ws)) (sym first)
-          (recursion_from_All IsStrict (visits_of root nodes) strict);
-      stands = λ all. subst (λ (ws : List Waiting). AllByRecursion (Stands (IsBelow r.m.now r.limit)) (visits 0 nodes ws)) first all;
+      whole = subst (IsWhole (blocks_of r) nodes) (sym first) whole;
+      plain = recursion_from_All IsPlain nodes plain;
+      strict = subst (λ (ws : List Waiting). AllByRecursion HasSides (visits (blocks_of r) 0 nodes ws)) (sym first)
+          (recursion_from_All HasSides (visits_of (blocks_of r) root nodes) strict);
+      stands = λ all. subst (λ (ws : List Waiting). AllByRecursion (OuterStands (IsBelow r.m.now r.limit)) (visits (blocks_of r) 0 nodes ws)) first all;
       comes = λ verdict c.
-          subst (λ (t : List ℕ). Comes r.rules r.m.now r.limit 1 (closed_boxes root nodes) (pieces_of t) verdict) text
-          (subst (λ (n : ℕ). Comes r.rules r.m.now r.limit (n + 1) (closed_boxes root nodes) (pieces_of w.left.text.now) verdict) read
-          (subst (λ (ws : List Waiting). LeftComes r w.left (flat_map closed_box (visits 0 nodes ws)) verdict) first c));
+          subst (λ (t : List ℕ). Comes r.rules r.m.now r.limit 1 (closed_boxes (blocks_of r) root nodes) (pieces_of t) verdict) text
+          (subst (λ (n : ℕ). Comes r.rules r.m.now r.limit (n + 1) (closed_boxes (blocks_of r) root nodes) (pieces_of w.left.text.now) verdict) read
+          (subst (λ (ws : List Waiting). LeftComes r w.left (flat_map closed_box (visits (blocks_of r) 0 nodes ws)) verdict) first c));
     }
 
 some_left : (r : Rules) (n b : ℕ) (bs : List ℕ) → Comes r.rules r.m.now r.limit n [] (pieces_of (b ∷ bs)) Short
@@ -237,5 +251,5 @@ walk_end r nodes log w verdict h end = h.comes verdict (by w.left.text.now verdi
     by (b ∷ bs) Short e = some_left r (w.left.read + 1) b bs
 
 pub all_stand : (r : Rules) (nodes : List Node) (log : List ℕ) (w : Walk) → IsWalk r nodes log [] w
-    → All (Stands (IsBelow r.m.now r.limit)) (visits_of (root_of r.m.now) nodes)
-all_stand r nodes log w h = All-from_recursion (Stands (IsBelow r.m.now r.limit)) (visits_of (root_of r.m.now) nodes) (h.stands tt)
+    → All (OuterStands (IsBelow r.m.now r.limit)) (visits_of (blocks_of r) (root_of r.m.now) nodes)
+all_stand r nodes log w h = All-from_recursion (OuterStands (IsBelow r.m.now r.limit)) (visits_of (blocks_of r) (root_of r.m.now) nodes) (h.stands tt)

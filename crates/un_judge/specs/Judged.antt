@@ -7,7 +7,7 @@ use Rattle.un_model.specs.Boxes.{root_of}
 use Rattle.un_model.specs.declared.model.Model.{Model}
 use Rattle.un_tree.specs.Waits.{Waiting, Whole, Visit, visits_of}
 use Rattle.un_tree.specs.declared.node.Node.{Node}
-use Rattle.un_tree.specs.declared.node.Node.TheVariants.{Branch, Closed, Open}
+use Rattle.un_tree.specs.declared.node.Node.TheVariants.{Closed}
 use Rattle.un_steps.specs.Allowed.{IsAllowed, after}
 use Rattle.un_steps.specs.declared.step.Step.{Step}
 use Rattle.un_judge.specs.Lines.{IsStepLine, dot_line}
@@ -16,16 +16,16 @@ use Rattle.un_judge.specs.declared.verdict.StepVerdict.TheVariants.{Yes, BadStep
 
 -- ---- the boxes of the closed leaves, in order
 
+-- the box of a closed leaf outside of parts
 abbrev pub closed_by : Node → Waiting → List Sets
-closed_by (Branch v x) (Whole b) = []
 closed_by Closed (Whole b) = b ∷ []
-closed_by Open (Whole b) = []
+closed_by _ _ = []
 
 abbrev pub closed_box : Visit → List Sets
 closed_box p = closed_by p.node p.waiting
 
-abbrev pub closed_boxes : Sets → List Node → List Sets
-closed_boxes root nodes = flat_map closed_box (visits_of root nodes)
+abbrev pub closed_boxes : ℕ → Sets → List Node → List Sets
+closed_boxes blocks root nodes = flat_map closed_box (visits_of blocks root nodes)
 
 -- ---- lines
 
@@ -65,7 +65,7 @@ module _ (rules : ℕ) (m : Model) (limit : Option ℕ) where
 
 -- what the text of a log comes to, for the closed leaves of a model's tree
 abbrev pub IsJudged : ℕ → Model → Option ℕ → List Node → List ℕ → StepVerdict → Type 0
-IsJudged rules m limit nodes log verdict = Comes rules m limit 1 (closed_boxes (root_of m) nodes) (pieces_of log) verdict
+IsJudged rules m limit nodes log verdict = Comes rules m limit 1 (closed_boxes (length m.ext.blocks) (root_of m) nodes) (pieces_of log) verdict
 
 abbrev pub OnYes : Type 0 → StepVerdict → Type 0
 OnYes A Yes = A

@@ -1,14 +1,14 @@
 //! The judge: a step log, leaf after leaf of a tree.
 
-ghost use Rattle.std.specs.Prelude.{◌≡◌, ◌∷◌, ℕ, List, All, MatchOption, OnOk, IfOk};
+ghost use Rattle.std.specs.Prelude.{◌≡◌, ◌∷◌, ℕ, List, All, MatchOption, OnOk, IfOk, length};
 ghost use Rattle.un_isa.specs.Fit.{IsFit};
 ghost use Rattle.un_ir.specs.Extended.{IsExtended};
 ghost use Rattle.un_domains.specs.Sets.{Sets};
 ghost use Rattle.un_model.specs.Boxes.{IsBelow, root_of};
 ghost use Rattle.un_model.specs.Options.{AreOptions};
 ghost use Rattle.un_model.specs.Variables.{IsModel};
-ghost use Rattle.un_tree.specs.Covered.{Stands};
-ghost use Rattle.un_tree.specs.Waits.{IsTreeOf, IsStrict, IsStrictIn, Whole, visits_of, after};
+ghost use Rattle.un_tree.specs.Covered.{OuterStands};
+ghost use Rattle.un_tree.specs.Waits.{IsTreeOf, IsPlain, HasSides, HasSidesIn, Whole, visits_of, after};
 ghost use Rattle.un_tree.specs.declared.node.Node.{Node};
 ghost use Rattle.un_walk.specs.Finished.{NoneIn};
 ghost use Rattle.un_walk.specs.Stands.{IsStandAt};
@@ -16,7 +16,7 @@ ghost use Rattle.un_walk.specs.Turns.{waits, waiting_at};
 ghost use Rattle.un_steps.specs.Keeping.{IsGround};
 ghost use Rattle.un_judge.specs.Judged.{IsJudged, OnYes};
 ghost use Rattle.un_judge.specs.Leaves.{LeftComes};
-ghost use Rattle.un_judge.specs.Walks.{IsWalk, NotYes, Passes, TextComes};
+ghost use Rattle.un_judge.specs.Walks.{IsWalk, NotYes, Passes, TextComes, blocks_of};
 ghost use Rattle.un_judge.specs.declared.verdict.StepVerdict.{StepVerdict};
 
 use crate::leaf::{LeafEnd, Left, Rules, close};
@@ -77,15 +77,18 @@ fn lines_of(r: &Rules<'_>, walk: &mut Walk<'_>, node: Node) -> Result<Option<Ste
         Node::Branch { .. } => Ok(None),
         Node::Closed => { close_here(r, walk) }
         Node::Open => Ok(None),
+        Node::Split => Ok(None),
+        Node::Part { .. } => Ok(None),
     }
 }
 
 /// Goes on behind a node. Answers whether a box waits there.
 fn advance(r: &Rules<'_>, stand: &mut Stand, node: Node) -> Result<bool, NoMemory>
     requires at { IsStandAt (root_of r.now.m.now) stand.old }
-    requires strict { IsStrictIn node (Whole stand.old.cuts.sets) }
+    requires plain { IsPlain node }
+    requires strict { HasSidesIn node (Whole stand.old.cuts.sets) }
     ensures at { OnOk result (IsStandAt (root_of r.now.m.now) stand.new) }
-    ensures waits { IfOk result (λ more. after node (Whole stand.old.cuts.sets) (waits (root_of r.now.m.now) stand.old.path.items)
+    ensures waits { IfOk result (λ more. after (blocks_of r.now) node (Whole stand.old.cuts.sets) (waits (root_of r.now.m.now) stand.old.path.items)
         ≡ waiting_at (root_of r.now.m.now) stand.new.path.items more) }
 {
     let _ = r;
@@ -97,7 +100,8 @@ fn advance(r: &Rules<'_>, stand: &mut Stand, node: Node) -> Result<bool, NoMemor
 fn visit(r: &Rules<'_>, walk: &mut Walk<'_>, node: Node) -> Result<Option<StepVerdict>, NoMemory>
     requires ground { IsGround r.now.m.now }
     requires at { IsStandAt (root_of r.now.m.now) walk.old.stand }
-    requires strict { IsStrictIn node (Whole walk.old.stand.cuts.sets) }
+    requires plain { IsPlain node }
+    requires strict { HasSidesIn node (Whole walk.old.stand.cuts.sets) }
     ensures visited { IfOk result (λ told. (nodes rest : List Node) (log : List ℕ) → IsWalk r.now nodes log (node ∷ rest) walk.old
         → MatchOption told (IsWalk r.now nodes log rest walk.new)
         (λ bad. NotYes bad × IsJudged r.now.rules r.now.m.now r.now.limit nodes log bad)) }
@@ -113,8 +117,8 @@ fn visit(r: &Rules<'_>, walk: &mut Walk<'_>, node: Node) -> Result<Option<StepVe
 /// Before the first node.
 fn begin<'a>(alloc: Global, r: &Rules<'_>, log: &'a [u8]) -> Result<Walk<'a>, NoMemory>
     requires ground { IsGround r.now.m.now }
-    ensures first { IfOk result (λ walk. (nodes : List Node) → IsTreeOf (root_of r.now.m.now) nodes
-        → All IsStrict (visits_of (root_of r.now.m.now) nodes) → IsWalk r.now nodes log.now nodes walk) }
+    ensures first { IfOk result (λ walk. (nodes : List Node) → IsTreeOf (blocks_of r.now) (root_of r.now.m.now) nodes
+        → All IsPlain nodes → All HasSides (visits_of (blocks_of r.now) (root_of r.now.m.now) nodes) → IsWalk r.now nodes log.now nodes walk) }
 {
     let cuts = first_box(alloc, r.m)?;
     Ok(Walk {
@@ -138,11 +142,12 @@ fn end_of(text: &[u8]) -> StepVerdict
 /// What a log comes to by the first so many rules.
 fn judge_by(alloc: Global, r: &Rules<'_>, t: &Tree, log: &[u8]) -> Result<StepVerdict, NoMemory>
     requires ground { IsGround r.now.m.now }
-    requires whole { IsTreeOf (root_of r.now.m.now) t.now.nodes.items }
-    requires strict { All IsStrict (visits_of (root_of r.now.m.now) t.now.nodes.items) }
+    requires whole { IsTreeOf (blocks_of r.now) (root_of r.now.m.now) t.now.nodes.items }
+    requires plain { All IsPlain t.now.nodes.items }
+    requires strict { All HasSides (visits_of (blocks_of r.now) (root_of r.now.m.now) t.now.nodes.items) }
     ensures verdict { IfOk result (IsJudged r.now.rules r.now.m.now r.now.limit t.now.nodes.items log.now) }
-    ensures stands { IfOk result (OnYes (All (Stands (IsBelow r.now.m.now r.now.limit))
-        (visits_of (root_of r.now.m.now) t.now.nodes.items))) }
+    ensures stands { IfOk result (OnYes (All (OuterStands (IsBelow r.now.m.now r.now.limit))
+        (visits_of (blocks_of r.now) (root_of r.now.m.now) t.now.nodes.items))) }
 {
     let mut walk = begin(alloc, r, log)?;
     for node in &t.nodes {
@@ -154,8 +159,8 @@ fn judge_by(alloc: Global, r: &Rules<'_>, t: &Tree, log: &[u8]) -> Result<StepVe
     Ok(end_of(walk.left.text))
 }
 
-/// What a step log comes to by the first so many rules, for the closed leaves of a tree whose branches have both sides. Where the answer
-/// is `Yes`, no closed leaf holds a solution below the limit. More rules than there are mean all.
+/// What a step log comes to by the first so many rules, for the closed leaves of a tree without a Split whose branches have both sides. Where
+/// the answer is `Yes`, no closed leaf holds a solution below the limit. More rules than there are mean all.
 ///
 /// # Errors
 /// Where memory is short, or where there are more variables or lines than numbers below 2^32.
@@ -171,10 +176,12 @@ pub fn judge(
     requires extended { IsExtended m.now.ext }
     requires fit { IsFit m.now.ext.table }
     requires options { AreOptions m.now.options }
-    requires whole { IsTreeOf (root_of m.now) t.now.nodes.items }
-    requires strict { All IsStrict (visits_of (root_of m.now) t.now.nodes.items) }
+    requires whole { IsTreeOf (length m.now.ext.blocks) (root_of m.now) t.now.nodes.items }
+    requires plain { All IsPlain t.now.nodes.items }
+    requires strict { All HasSides (visits_of (length m.now.ext.blocks) (root_of m.now) t.now.nodes.items) }
     ensures verdict { IfOk result (IsJudged rules m.now limit t.now.nodes.items log.now) }
-    ensures stands { IfOk result (OnYes (All (Stands (IsBelow m.now limit)) (visits_of (root_of m.now) t.now.nodes.items))) }
+    ensures stands { IfOk result (OnYes (All (OuterStands (IsBelow m.now limit))
+        (visits_of (length m.now.ext.blocks) (root_of m.now) t.now.nodes.items))) }
 {
     let r = Rules { rules, m, limit };
     let verdict = judge_by(alloc, &r, t, log)?;

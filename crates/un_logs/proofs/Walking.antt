@@ -11,13 +11,14 @@ use Rattle.un_domains.specs.Sets.{Sets}
 use Rattle.un_model.specs.Boxes.{root_of}
 use Rattle.un_model.specs.declared.model.Model.{Model}
 use Rattle.un_tree.specs.Boxes.{reached}
-use Rattle.un_tree.specs.Waits.{Waiting, Whole, Visit, IsWhole, IsTreeOf, IsStrict, IsStrictIn, after, visits, visits_of}
+use Rattle.un_tree.specs.Waits.{Waiting, Whole, Visit, IsWhole, IsTreeOf, IsPlain, HasSides, HasSidesIn, after, visits, visits_of}
 use Rattle.un_tree.specs.declared.node.Decision.{Decision}
 use Rattle.un_tree.specs.declared.node.Node.{Node}
 use Rattle.un_tree.specs.declared.node.Node.TheVariants.{Closed}
 use Rattle.un_walk.specs.Stands.{IsStandAt}
 use Rattle.un_walk.specs.Turns.{waits, waiting_at}
 use Rattle.un_judge.specs.Judged.{Comes, IsJudged, closed_by, closed_box, closed_boxes}
+use Rattle.un_judge.specs.Walks.{blocks_of}
 use Rattle.un_judge.specs.declared.leaf.Rules.{Rules}
 use Rattle.un_judge.specs.declared.verdict.StepVerdict.TheVariants.{Yes}
 use Rattle.un_logs.specs.Goods.{IsGood, Ends}
@@ -53,43 +54,50 @@ module _ (r : Rules) (nodes : List Node) (n : Node) (rest : List Node) (old : Wa
   now = Whole (reached root path)
 
   abbrev behind : List Waiting
-  behind = after n now (waits root path)
+  behind = after (blocks_of r) n now (waits root path)
 
   abbrev visit : Visit
   visit = record { node = n; waiting = now; place = old.place; rest = rest }
 
   abbrev visits_behind : List Visit
-  visits_behind = visits (old.place + 1) rest behind
+  visits_behind = visits (blocks_of r) (old.place + 1) rest behind
 
   -- a box waits
   more : old.more ≡ true
   more = by old.more h.whole
     where
-      by : (b : Bool) → IsWhole (n ∷ rest) (waiting_at root path b) → b ≡ true
+      by : (b : Bool) → IsWhole (blocks_of r) (n ∷ rest) (waiting_at root path b) → b ≡ true
       by true whole = refl
       by false whole = absurd whole
 
-  here : visits old.place (n ∷ rest) (waits_of r old) ≡ visit ∷ visits_behind
-  here = ap (λ (b : Bool). visits old.place (n ∷ rest) (waiting_at root path b)) more
+  here : visits (blocks_of r) old.place (n ∷ rest) (waits_of r old) ≡ visit ∷ visits_behind
+  here = ap (λ (b : Bool). visits (blocks_of r) old.place (n ∷ rest) (waiting_at root path b)) more
 
-  whole_behind : IsWhole rest behind
-  whole_behind = subst (λ (b : Bool). IsWhole (n ∷ rest) (waiting_at root path b)) more h.whole
+  whole_behind : IsWhole (blocks_of r) rest behind
+  whole_behind = subst (λ (b : Bool). IsWhole (blocks_of r) (n ∷ rest) (waiting_at root path b)) more h.whole
 
-  strict_both : AllByRecursion IsStrict (visit ∷ visits_behind)
-  strict_both = subst (AllByRecursion IsStrict) here h.strict
+  strict_both : AllByRecursion HasSides (visit ∷ visits_behind)
+  strict_both = subst (AllByRecursion HasSides) here h.strict
+
+  plain_both : AllByRecursion IsPlain (n ∷ rest)
+  plain_both = h.plain
+
+  -- the node is none of a Split or its parts
+  pub plain_here : IsPlain n
+  plain_here = plain_both.0
 
   box_is : old.stand.cuts.sets ≡ reached root path
   box_is = let a = h.at in a.sets
 
-  split_here : visits_of root nodes ≡ h.done ++ visit ∷ visits_behind
+  split_here : visits_of (blocks_of r) root nodes ≡ h.done ++ visit ∷ visits_behind
   split_here = h.split ∙ ap (λ (vs : List Visit). h.done ++ vs) here
 
   -- the node is strict in the stand's box
-  pub strict_here : IsStrictIn n (Whole old.stand.cuts.sets)
-  strict_here = subst (λ (b : Sets). IsStrictIn n (Whole b)) (sym box_is) strict_both.0
+  pub strict_here : HasSidesIn n (Whole old.stand.cuts.sets)
+  strict_here = subst (λ (b : Sets). HasSidesIn n (Whole b)) (sym box_is) strict_both.0
 
   good_here : (tail : List ℕ) → IsGood r (closed_by n now ++ flat_map closed_box visits_behind) tail
-      → IsGood r (closed_boxes root nodes) (old.text.items ++ tail)
+      → IsGood r (closed_boxes (blocks_of r) root nodes) (old.text.items ++ tail)
   good_here tail good = h.good tail (subst (λ (vs : List Visit). IsGood r (flat_map closed_box vs) tail) (sym here) good)
 
   -- the rules do not empty its box
@@ -107,31 +115,32 @@ module _ (r : Rules) (nodes : List Node) (n : Node) (rest : List Node) (old : Wa
 
   -- they do: the walk goes on
   pub walk_on : (mid new : Walk) → Passes r n old.stand.cuts.sets old.text.items new.text.items → IsStandAt root new.stand
-      → new.place ≡ old.place + 1 → after n (Whole mid.stand.cuts.sets) (waits root mid.stand.path.items) ≡ waits_of r new
+      → new.place ≡ old.place + 1 → after (blocks_of r) n (Whole mid.stand.cuts.sets) (waits root mid.stand.path.items) ≡ waits_of r new
       → mid.stand.path.items ≡ path → mid.stand.cuts.sets ≡ old.stand.cuts.sets → IsWalk r nodes rest new
   walk_on mid new p at place waits_are same_path same_box =
       let next : behind ≡ waits_of r new =
-      ap (λ (b : Sets). after n (Whole b) (waits root path)) (sym (same_box ∙ box_is))
-      ∙ (ap (λ (ds : List Decision). after n (Whole mid.stand.cuts.sets) (waits root ds)) (sym same_path) ∙ waits_are) in
-      let ahead : visits_behind ≡ visits new.place rest (waits_of r new) =
-      ap (λ (ws : List Waiting). visits (old.place + 1) rest ws) next
-      ∙ ap (λ (i : ℕ). visits i rest (waits_of r new)) (sym place) in
+      ap (λ (b : Sets). after (blocks_of r) n (Whole b) (waits root path)) (sym (same_box ∙ box_is))
+      ∙ (ap (λ (ds : List Decision). after (blocks_of r) n (Whole mid.stand.cuts.sets) (waits root ds)) (sym same_path) ∙ waits_are) in
+      let ahead : visits_behind ≡ visits (blocks_of r) new.place rest (waits_of r new) =
+      ap (λ (ws : List Waiting). visits (blocks_of r) (old.place + 1) rest ws) next
+      ∙ ap (λ (i : ℕ). visits (blocks_of r) i rest (waits_of r new)) (sym place) in
       let strict = strict_both.1 in
       record {
         at = at;
-        whole = subst (IsWhole rest) next whole_behind;
-        strict = subst (AllByRecursion IsStrict) ahead strict;
+        whole = subst (IsWhole (blocks_of r) rest) next whole_behind;
+        plain = plain_both.1;
+        strict = subst (AllByRecursion HasSides) ahead strict;
         done = h.done ++ visit ∷ [];
         split = split_here ∙ (ap (λ (vs : List Visit). h.done ++ visit ∷ vs) ahead
-            ∙ sym (append_assoc h.done (visit ∷ []) (visits new.place rest (waits_of r new))));
+            ∙ sym (append_assoc h.done (visit ∷ []) (visits (blocks_of r) new.place rest (waits_of r new))));
         lost = All-append (IsLost r.rules r.m.now r.limit) h.done (visit ∷ []) h.lost
             (All-from_recursion (IsLost r.rules r.m.now r.limit) (visit ∷ []) (
               (λ stuck. p.lost (subst (λ (b : Sets). IsStuckBy r.rules r.m.now r.limit n (Whole b)) (sym box_is) stuck)),
               tt,
             ));
         good = λ tail good.
-            subst (λ (t : List ℕ). IsGood r (closed_boxes root nodes) (t ++ tail)) (sym p.grown)
-            (subst (IsGood r (closed_boxes root nodes)) (sym (append_assoc old.text.items p.part tail))
+            subst (λ (t : List ℕ). IsGood r (closed_boxes (blocks_of r) root nodes) (t ++ tail)) (sym p.grown)
+            (subst (IsGood r (closed_boxes (blocks_of r) root nodes)) (sym (append_assoc old.text.items p.part tail))
             (good_here (p.part ++ tail)
             (subst (λ (b : Sets). IsGood r (closed_by n (Whole b) ++ flat_map closed_box visits_behind) (p.part ++ tail)) box_is
             (p.good (flat_map closed_box visits_behind) tail
@@ -141,34 +150,35 @@ module _ (r : Rules) (nodes : List Node) (n : Node) (rest : List Node) (old : Wa
 -- ---- the first node and the last
 
 pub walk_first : (r : Rules) (nodes : List Node) (w : Walk) → IsStandAt (root_of r.m.now) w.stand → w.stand.path.items ≡ []
-    → w.more ≡ true → w.place ≡ 0 → w.text.items ≡ [] → IsTreeOf (root_of r.m.now) nodes
-    → All IsStrict (visits_of (root_of r.m.now) nodes) → IsWalk r nodes nodes w
-walk_first r nodes w at path more place text whole strict =
+    → w.more ≡ true → w.place ≡ 0 → w.text.items ≡ [] → IsTreeOf (blocks_of r) (root_of r.m.now) nodes → All IsPlain nodes
+    → All HasSides (visits_of (blocks_of r) (root_of r.m.now) nodes) → IsWalk r nodes nodes w
+walk_first r nodes w at path more place text whole plain strict =
     let root = root_of r.m.now in
     let first : waits_of r w ≡ Whole root ∷ [] =
     ap (waiting_at root w.stand.path.items) more ∙ ap (λ (ds : List Decision). waiting_at root ds true) path in
-    let all : visits w.place nodes (waits_of r w) ≡ visits_of root nodes =
-    ap (visits w.place nodes) first ∙ ap (λ (i : ℕ). visits i nodes (Whole root ∷ [])) place in
+    let all : visits (blocks_of r) w.place nodes (waits_of r w) ≡ visits_of (blocks_of r) root nodes =
+    ap (visits (blocks_of r) w.place nodes) first ∙ ap (λ (i : ℕ). visits (blocks_of r) i nodes (Whole root ∷ [])) place in
     record {
       at = at;
-      whole = subst (IsWhole nodes) (sym first) whole;
-      strict = subst (AllByRecursion IsStrict) (sym all) (recursion_from_All IsStrict (visits_of root nodes) strict);
+      whole = subst (IsWhole (blocks_of r) nodes) (sym first) whole;
+      plain = recursion_from_All IsPlain nodes plain;
+      strict = subst (AllByRecursion HasSides) (sym all) (recursion_from_All HasSides (visits_of (blocks_of r) root nodes) strict);
       done = [];
       split = sym all;
       lost = All-from_recursion (IsLost r.rules r.m.now r.limit) [] tt;
       good = λ tail good.
-          subst (λ (t : List ℕ). IsGood r (closed_boxes root nodes) (t ++ tail)) (sym text)
+          subst (λ (t : List ℕ). IsGood r (closed_boxes (blocks_of r) root nodes) (t ++ tail)) (sym text)
           (subst (λ (vs : List Visit). IsGood r (flat_map closed_box vs) tail) all good);
     }
 
 module _ (r : Rules) (nodes : List Node) (w : Walk) (h : IsWalk r nodes [] w) where
   -- nothing waits
-  pub all_gone : visits_of (root_of r.m.now) nodes ≡ h.done
+  pub all_gone : visits_of (blocks_of r) (root_of r.m.now) nodes ≡ h.done
   all_gone = h.split ∙ append-nil h.done
 
   pub log_is : IsJudged r.rules r.m.now r.limit nodes w.text.items Yes
   log_is =
-      subst (λ (t : List ℕ). Comes r.rules r.m.now r.limit 1 (closed_boxes (root_of r.m.now) nodes) (pieces_of t) Yes)
+      subst (λ (t : List ℕ). Comes r.rules r.m.now r.limit 1 (closed_boxes (blocks_of r) (root_of r.m.now) nodes) (pieces_of t) Yes)
       (append-nil w.text.items) (h.good [] (λ n. refl) 1)
 
   pub none_stuck : (i : ℕ) → IsFirstStuck r.rules r.m.now r.limit nodes i → ⊥

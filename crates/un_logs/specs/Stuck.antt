@@ -1,11 +1,11 @@
 -- Boxes that the rules do not empty, and the first leaf of a tree with one.
-use Rattle.std.specs.Prelude.{ℕ, ◌≡◌, List, ◌∷◌, ◌++◌, Option, All}
+use Rattle.std.specs.Prelude.{ℕ, ◌≡◌, List, ◌∷◌, ◌++◌, Option, All, length}
 use Rattle.un_domains.specs.Sets.{Sets, NoneEmpty}
 use Rattle.un_model.specs.Boxes.{root_of}
 use Rattle.un_model.specs.declared.model.Model.{Model}
 use Rattle.un_tree.specs.Waits.{Waiting, Whole, Visit, visits_of}
 use Rattle.un_tree.specs.declared.node.Node.{Node}
-use Rattle.un_tree.specs.declared.node.Node.TheVariants.{Branch, Closed, Open}
+use Rattle.un_tree.specs.declared.node.Node.TheVariants.{Closed}
 use Rattle.un_logs.specs.Rounds.{IsRound, Rounds}
 
 module _ (rules : ℕ) (m : Model) (limit : Option ℕ) where
@@ -17,11 +17,10 @@ module _ (rules : ℕ) (m : Model) (limit : Option ℕ) where
     pub full : NoneEmpty end
     pub same : IsRound m limit rules end end
 
-  -- a closed leaf with such a box
+  -- a closed leaf outside of parts with such a box
   abbrev pub IsStuckBy : Node → Waiting → Type 0
-  IsStuckBy (Branch v x) (Whole b) = ⊥
   IsStuckBy Closed (Whole b) = IsStuck b
-  IsStuckBy Open (Whole b) = ⊥
+  IsStuckBy _ _ = ⊥
 
   abbrev pub IsStuckAt : Visit → Type 0
   IsStuckAt p = IsStuckBy p.node p.waiting
@@ -34,7 +33,7 @@ module _ (rules : ℕ) (m : Model) (limit : Option ℕ) where
     pub before : List Visit
     pub at : Visit
     pub behind : List Visit
-    pub split : visits_of (root_of m) nodes ≡ before ++ at ∷ behind
+    pub split : visits_of (length m.ext.blocks) (root_of m) nodes ≡ before ++ at ∷ behind
     pub none : All IsLost before
     pub stuck : IsStuckAt at
     pub place : at.place ≡ i

@@ -1,17 +1,18 @@
 //! Step logs: leaf after leaf of a tree.
 
-ghost use Rattle.std.specs.Prelude.{◌≡◌, [], ◌∷◌, ℕ, List, All, OnOk, IfOk, IfErr, Err};
+ghost use Rattle.std.specs.Prelude.{◌≡◌, [], ◌∷◌, ℕ, List, All, OnOk, IfOk, IfErr, Err, length};
 ghost use Rattle.std.specs.Bool.{OnTrue, OnFalse};
 ghost use Rattle.un_isa.specs.Fit.{IsFit};
 ghost use Rattle.un_ir.specs.Extended.{IsExtended};
 ghost use Rattle.un_model.specs.Boxes.{root_of};
 ghost use Rattle.un_model.specs.Options.{AreOptions};
 ghost use Rattle.un_model.specs.Variables.{IsModel};
-ghost use Rattle.un_tree.specs.Waits.{IsTreeOf, IsStrict, IsStrictIn, Whole, visits_of, after};
+ghost use Rattle.un_tree.specs.Waits.{IsTreeOf, IsPlain, HasSides, HasSidesIn, Whole, visits_of, after};
 ghost use Rattle.un_tree.specs.declared.node.Node.{Node};
 ghost use Rattle.un_walk.specs.Stands.{IsStandAt};
 ghost use Rattle.un_walk.specs.Turns.{waits, waiting_at};
 ghost use Rattle.un_judge.specs.Judged.{IsJudged};
+ghost use Rattle.un_judge.specs.Walks.{blocks_of};
 ghost use Rattle.un_judge.specs.declared.verdict.StepVerdict.TheVariants.{Yes};
 ghost use Rattle.un_steps.specs.Keeping.{IsGround};
 ghost use Rattle.un_logs.specs.Goods.{Ends};
@@ -75,15 +76,18 @@ fn write_node(r: &Rules<'_>, walk: &mut Walk, node: Node) -> Result<bool, NoMemo
             Ok(ended)
         }
         Node::Open => Ok(true),
+        Node::Split => Ok(true),
+        Node::Part { .. } => Ok(true),
     }
 }
 
 /// Goes on behind a node. Answers whether a box waits there.
 fn advance(r: &Rules<'_>, stand: &mut Stand, node: Node) -> Result<bool, NoMemory>
     requires at { IsStandAt (root_of r.now.m.now) stand.old }
-    requires strict { IsStrictIn node (Whole stand.old.cuts.sets) }
+    requires plain { IsPlain node }
+    requires strict { HasSidesIn node (Whole stand.old.cuts.sets) }
     ensures at { OnOk result (IsStandAt (root_of r.now.m.now) stand.new) }
-    ensures waits { IfOk result (λ more. after node (Whole stand.old.cuts.sets) (waits (root_of r.now.m.now) stand.old.path.items)
+    ensures waits { IfOk result (λ more. after (blocks_of r.now) node (Whole stand.old.cuts.sets) (waits (root_of r.now.m.now) stand.old.path.items)
         ≡ waiting_at (root_of r.now.m.now) stand.new.path.items more) }
 {
     let _ = r;
@@ -94,7 +98,8 @@ fn advance(r: &Rules<'_>, stand: &mut Stand, node: Node) -> Result<bool, NoMemor
 /// One node more. Answers whether the walk goes on: it ends at a closed leaf that the rules do not empty.
 fn visit(r: &Rules<'_>, walk: &mut Walk, node: Node) -> Result<bool, NoMemory>
     requires at { IsStandAt (root_of r.now.m.now) walk.old.stand }
-    requires strict { IsStrictIn node (Whole walk.old.stand.cuts.sets) }
+    requires plain { IsPlain node }
+    requires strict { HasSidesIn node (Whole walk.old.stand.cuts.sets) }
     ensures on { IfOk result (λ on. OnTrue on ((nodes rest : List Node) → IsWalk r.now nodes (node ∷ rest) walk.old
         → IsWalk r.now nodes rest walk.new)) }
     ensures stuck { IfOk result (λ on. OnFalse on ((nodes rest : List Node) → IsWalk r.now nodes (node ∷ rest) walk.old
@@ -121,8 +126,8 @@ fn no_lines(alloc: Global) -> Vec<u8>
 /// Before the first node.
 fn begin(alloc: Global, r: &Rules<'_>) -> Result<Walk, NoMemory>
     requires ground { IsGround r.now.m.now }
-    ensures first { IfOk result (λ walk. (nodes : List Node) → IsTreeOf (root_of r.now.m.now) nodes
-        → All IsStrict (visits_of (root_of r.now.m.now) nodes) → IsWalk r.now nodes nodes walk) }
+    ensures first { IfOk result (λ walk. (nodes : List Node) → IsTreeOf (blocks_of r.now) (root_of r.now.m.now) nodes
+        → All IsPlain nodes → All HasSides (visits_of (blocks_of r.now) (root_of r.now.m.now) nodes) → IsWalk r.now nodes nodes walk) }
 {
     let cuts = first_box(alloc, r.m)?;
     Ok(Walk {
@@ -136,8 +141,9 @@ fn begin(alloc: Global, r: &Rules<'_>) -> Result<Walk, NoMemory>
 /// A step log of a tree by the first so many rules, or its first leaf without one.
 fn log_by(alloc: Global, r: &Rules<'_>, t: &Tree) -> Result<Result<Vec<u8>, u32>, NoMemory>
     requires ground { IsGround r.now.m.now }
-    requires whole { IsTreeOf (root_of r.now.m.now) t.now.nodes.items }
-    requires strict { All IsStrict (visits_of (root_of r.now.m.now) t.now.nodes.items) }
+    requires whole { IsTreeOf (blocks_of r.now) (root_of r.now.m.now) t.now.nodes.items }
+    requires plain { All IsPlain t.now.nodes.items }
+    requires strict { All HasSides (visits_of (blocks_of r.now) (root_of r.now.m.now) t.now.nodes.items) }
     ensures log { IfOk result (λ told. IfOk told (λ text. IsJudged r.now.rules r.now.m.now r.now.limit t.now.nodes.items text.items Yes)) }
     ensures stuck { IfOk result (λ told. IfErr told (IsFirstStuck r.now.rules r.now.m.now r.now.limit t.now.nodes.items)) }
     ensures none { IfOk result (λ told. OnOk told ((i : ℕ) → IsFirstStuck r.now.rules r.now.m.now r.now.limit t.now.nodes.items i → ⊥)) }
@@ -152,7 +158,7 @@ fn log_by(alloc: Global, r: &Rules<'_>, t: &Tree) -> Result<Result<Vec<u8>, u32>
     Ok(Ok(walk.text))
 }
 
-/// A step log of a tree whose branches have both sides: at each closed leaf the first so many rules take all values that may go, at every
+/// A step log of a tree without a Split whose branches have both sides: at each closed leaf the first so many rules take all values that may go, at every
 /// place in order, round after round, until some set is empty or a round changes nothing. The inner error is the first closed leaf, by
 /// its place among the nodes from 0, whose rounds end with no empty set; it comes exactly where there is one.
 ///
@@ -169,8 +175,9 @@ pub fn log_tree(
     requires extended { IsExtended m.now.ext }
     requires fit { IsFit m.now.ext.table }
     requires options { AreOptions m.now.options }
-    requires whole { IsTreeOf (root_of m.now) t.now.nodes.items }
-    requires strict { All IsStrict (visits_of (root_of m.now) t.now.nodes.items) }
+    requires whole { IsTreeOf (length m.now.ext.blocks) (root_of m.now) t.now.nodes.items }
+    requires plain { All IsPlain t.now.nodes.items }
+    requires strict { All HasSides (visits_of (length m.now.ext.blocks) (root_of m.now) t.now.nodes.items) }
     ensures log { IfOk result (λ told. IfOk told (λ text. IsJudged rules m.now limit t.now.nodes.items text.items Yes)) }
     ensures stuck { IfOk result (λ told. IfErr told (IsFirstStuck rules m.now limit t.now.nodes.items)) }
     ensures exactly { IfOk result (λ told. (i : ℕ) → IsFirstStuck rules m.now limit t.now.nodes.items i → told ≡ Err i) }

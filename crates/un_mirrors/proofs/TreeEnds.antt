@@ -7,7 +7,7 @@ use Rattle.std.proofs.lemmas.List.{append-nil, get_or_default}
 use Rattle.un_base.specs.declared.ids.VarId.{VarId}
 use Rattle.un_tree.specs.declared.node.Decision.{Decision}
 use Rattle.un_tree.specs.declared.node.Node.{Node}
-use Rattle.un_tree.specs.declared.node.Node.TheVariants.{Branch, Closed, Open}
+use Rattle.un_tree.specs.declared.node.Node.TheVariants.{Branch, Closed, Open, Split, Part}
 use Rattle.un_walk.specs.Routes.{IsWholeBy, branch_at, paths_after}
 use Rattle.un_mirrors.specs.Works.{BeginsWithTree, IsTreeTo, Leads}
 use Rattle.un_mirrors.proofs.Trees.{leads_more, leads_whole, whole_leads}
@@ -95,6 +95,8 @@ leaf_owes : (n : Node) (owed : ℕ) → ((v : VarId) (x : ℕ) → n ≡ Branch 
 leaf_owes (Branch v x) owed never p ps long = absurd (never v x refl)
 leaf_owes Closed owed never p ps long = omega (arith, long)
 leaf_owes Open owed never p ps long = omega (arith, long)
+leaf_owes Split owed never p ps long = omega (arith, long)
+leaf_owes (Part number) owed never p ps long = omega (arith, long)
 
 module _ (nodes : List Node) (from to owed : ℕ) (d : Node) (lt : to < length nodes) (h : IsOwed nodes from to owed) (some : 0 < owed) where
   abbrev at : Node

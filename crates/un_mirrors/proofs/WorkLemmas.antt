@@ -1,24 +1,24 @@
 -- How far the shortening of a tree has come, node after node.
 use Rattle.std.proofs.Common.{ℕ, zero, suc, ◌≡◌, ◌+◌, ◌-◌, ◌<◌, ◌≤◌, Bool, true, false, List, [], ◌∷◌, ◌++◌, length, get_or, drop, map}
-use Rattle.std.proofs.Common.{Option, Some, None, IfSome, All, Contains, refl, sym, ap, subst, ◌∙◌, append_assoc, arith}
+use Rattle.std.proofs.Common.{Option, None, IfSome, All, Contains, refl, sym, ap, subst, ◌∙◌, append_assoc, arith}
 use Rattle.std.specs.List.{AllByRecursion}
 use Rattle.std.proofs.Math.Seq.{drop-cons}
 use Rattle.std.proofs.Math.Numerals.{add-one}
 use Rattle.std.proofs.lemmas.List.{append-nil, length-drop}
-use Rattle.std.proofs.lemmas.List.Elements.{All-contains, All-from_recursion, All-push, All-nil}
+use Rattle.std.proofs.lemmas.List.Elements.{All-contains, All-from_recursion, All-push, All-nil, recursion_from_All}
 use Rattle.un_base.specs.declared.ids.VarId.{VarId}
 use Rattle.un_domains.specs.Sets.{Sets}
 use Rattle.un_model.specs.Boxes.{root_of}
 use Rattle.un_model.specs.declared.model.Model.{Model}
 use Rattle.un_tree.specs.Boxes.{Splits, reached}
-use Rattle.un_tree.specs.Waits.{IsStrict, IsStrictIn, IsWhole, Visit, Waiting, Whole, visits_of}
+use Rattle.un_tree.specs.Waits.{HasSides, HasSidesIn, IsPlain, Visit, Whole, visits_of}
 use Rattle.un_tree.specs.declared.node.Decision.{Decision}
 use Rattle.un_tree.specs.declared.node.Node.{Node}
-use Rattle.un_tree.specs.declared.node.Node.TheVariants.{Branch, Closed, Open}
+use Rattle.un_tree.specs.declared.node.Node.TheVariants.{Branch, Closed, Open, Split, Part}
 use Rattle.un_walk.specs.Routes.{IsWholeBy, Route, branch_at, paths_after, routes, visit_at}
 use Rattle.un_walk.specs.Stands.{IsStandAt}
 use Rattle.un_walk.specs.Turns.{paths_at, paths_behind}
-use Rattle.un_walk.proofs.RouteLemmas.{strict_by, visits_are}
+use Rattle.un_walk.proofs.RouteLemmas.{strict_by, visits_are, whole_are}
 use Rattle.un_symtree.specs.SymTexts.{SymFits}
 use Rattle.un_symtree.specs.declared.node.SymNode.{SymNode}
 use Rattle.un_symtree.specs.declared.node.SymNode.TheVariants.{Branch as SymBranch, Closed as SymClosed, Mirror}
@@ -31,20 +31,6 @@ use Rattle.un_mirrors.proofs.Trees.{all_more, contains_first, leads_more, leads_
 
 -- ---- the tree
 
--- as many paths as boxes wait
-pub whole_by : (ns : List Node) (ws : List Waiting) (ps : List (List Decision)) → IsWhole ns ws → length ps ≡ length ws
-    → IsWholeBy branch_at ns ps
-whole_by [] ws ps whole e = nothing ps (e ∙ ap length whole)
-  where
-    nothing : (qs : List (List Decision)) → length qs ≡ 0 → qs ≡ []
-    nothing [] e = refl
-    nothing (q ∷ qs) e = absurd (omega (arith, e))
-whole_by (n ∷ ns) [] ps whole e = absurd whole
-whole_by (n ∷ ns) (w ∷ ws) [] whole e = absurd (omega (arith, e))
-whole_by (Branch v x ∷ ns) (Whole b ∷ ws) (p ∷ ps) whole e = whole_by ns _ (paths_after (Some (v, x)) p ps) whole (omega (arith, e))
-whole_by (Closed ∷ ns) (Whole b ∷ ws) (p ∷ ps) whole e = whole_by ns ws ps whole (omega (arith, e))
-whole_by (Open ∷ ns) (Whole b ∷ ws) (p ∷ ps) whole e = whole_by ns ws ps whole (omega (arith, e))
-
 contains_map : {X Y : Type 0} (f : X → Y) (xs : List X) (x : X) → Contains xs x → Contains (map f xs) (f x)
 contains_map f [] x h = absurd (let lt = h.1 in omega (arith, lt))
 contains_map {X} {Y} f (y ∷ ys) x (zero, lt, e) = (zero, omega arith, ap f e)
@@ -52,17 +38,18 @@ contains_map {X} {Y} f (y ∷ ys) x (suc k, lt, e) =
     let rest = contains_map f ys x (k, omega (arith, lt), e) in let less = rest.1 in (suc rest.0, omega (arith, less), rest.2)
 
 -- a node of the tree is strict in the box at the end of its path
-pub strict_at : (root : Sets) (nodes : List Node) → All IsStrict (visits_of root nodes) → (r : Route Node) → Contains (tree_routes nodes) r
-    → IsStrictIn r.node (Whole (reached root r.path))
-strict_at root nodes strict r h = All-contains IsStrict (visits_of root nodes) (visit_at root r) strict
-    (subst (λ (vs : List Visit). Contains vs (visit_at root r)) (sym (visits_are root 0 nodes ([] ∷ [])))
+pub strict_at : (blocks : ℕ) (root : Sets) (nodes : List Node) → All IsPlain nodes → All HasSides (visits_of blocks root nodes)
+    → (r : Route Node) → Contains (tree_routes nodes) r → HasSidesIn r.node (Whole (reached root r.path))
+strict_at blocks root nodes plain strict r h = All-contains HasSides (visits_of blocks root nodes) (visit_at root r) strict
+    (subst (λ (vs : List Visit). Contains vs (visit_at root r))
+    (sym (visits_are blocks root 0 nodes ([] ∷ []) (recursion_from_All IsPlain nodes plain)))
     (contains_map (visit_at root) (tree_routes nodes) r h))
 
 -- ---- nodes of the shortened tree
 
 module _ (m : Model) (nodes : List Node) (path : List Decision) where
   -- one that is kept
-  pub made_same : (n : Node) (s : SymNode) → IsSameNode n s → StandsAt nodes n path → IsStrictIn n (Whole (reached (root_of m) path))
+  pub made_same : (n : Node) (s : SymNode) → IsSameNode n s → StandsAt nodes n path → HasSidesIn n (Whole (reached (root_of m) path))
       → ((a : ℕ) → IsMirrorOnNearest m a path → ⊥) → IsMade m nodes s path
   made_same (Branch v x) s same stands strict none = subst (λ (k : SymNode). IsMade m nodes k path) (sym same) (record {
     kept = stands;
@@ -77,6 +64,8 @@ module _ (m : Model) (nodes : List Node) (path : List Decision) where
     no_more = λ a is h. none a h;
   })
   made_same Open s same stands strict none = absurd same
+  made_same Split s same stands strict none = absurd same
+  made_same (Part number) s same stands strict none = absurd same
 
   -- a mirror
   pub made_mirror : (s : SymNode) → IsMirrorHere m path s → IsMade m nodes s path
@@ -88,6 +77,8 @@ pub same_branch : (n : Node) (s : SymNode) → IsSameNode n s → sym_branch_at 
 same_branch (Branch v x) s same = ap sym_branch_at same
 same_branch Closed s same = ap sym_branch_at same
 same_branch Open s same = absurd same
+same_branch Split s same = absurd same
+same_branch (Part number) s same = absurd same
 
 pub mirror_branch : (m : Model) (path : List Decision) (s : SymNode) → IsMirrorHere m path s → sym_branch_at s ≡ None
 mirror_branch m path (SymBranch v x) h = absurd h
@@ -99,6 +90,8 @@ pub short_same : (n : Node) (s : SymNode) → IsSameNode n s → IsShortOf (n �
 short_same (Branch v x) s same = subst (λ (k : SymNode). IsShortOf (Branch v x ∷ []) (k ∷ [])) (sym same) ([], refl, refl)
 short_same Closed s same = subst (λ (k : SymNode). IsShortOf (Closed ∷ []) (k ∷ [])) (sym same) ([], refl, refl)
 short_same Open s same = absurd same
+short_same Split s same = absurd same
+short_same (Part number) s same = absurd same
 
 -- a tree, put as a mirror
 pub short_mirror : (m : Model) (path : List Decision) (tree : List Node) (s : SymNode) → IsMirrorHere m path s → IsOneTree tree
@@ -181,8 +174,8 @@ module _ (m : Model) (nodes : List Node) (w q : Work) (h : IsWork m nodes w) (mo
     next_stands : StandsAt nodes next path
     next_stands = stands_here next (drop (w.place + 1) nodes) next_is
 
-    next_strict : IsShortenable m nodes → IsStrictIn next (Whole (reached (root_of m) path))
-    next_strict tree = strict_at (root_of m) nodes tree.strict
+    next_strict : IsShortenable m nodes → HasSidesIn next (Whole (reached (root_of m) path))
+    next_strict tree = strict_at (length m.ext.blocks) (root_of m) nodes tree.plain tree.strict
         (record { node = next; path = path; place = next_stands.place; rest = next_stands.rest }) next_stands.there
 
     -- the branch of it splits the box
@@ -232,7 +225,7 @@ first_is m nodes w tree at path more place none = record {
 }
   where
     whole : IsWholeBy branch_at nodes ([] ∷ [])
-    whole = whole_by nodes (Whole (root_of m) ∷ []) ([] ∷ []) tree.whole refl
+    whole = whole_are (length m.ext.blocks) (root_of m) nodes ([] ∷ []) (recursion_from_All IsPlain nodes tree.plain) tree.whole
 
     all : nodes ≡ drop w.place nodes
     all = ap (λ (k : ℕ). drop k nodes) (sym place)

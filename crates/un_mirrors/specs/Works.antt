@@ -4,10 +4,10 @@ use Rattle.std.specs.List.{AllByRecursion}
 use Rattle.un_base.specs.declared.ids.VarId.{VarId}
 use Rattle.un_model.specs.Boxes.{root_of}
 use Rattle.un_model.specs.declared.model.Model.{Model}
-use Rattle.un_tree.specs.Waits.{IsStrict, IsTreeOf, visits_of}
+use Rattle.un_tree.specs.Waits.{HasSides, IsPlain, IsTreeOf, visits_of}
 use Rattle.un_tree.specs.declared.node.Decision.{Decision}
 use Rattle.un_tree.specs.declared.node.Node.{Node}
-use Rattle.un_tree.specs.declared.node.Node.TheVariants.{Branch, Closed, Open}
+use Rattle.un_tree.specs.declared.node.Node.TheVariants.{Branch, Closed, Open, Split, Part}
 use Rattle.un_walk.specs.Routes.{IsWholeBy, Route, branch_at, paths_after, routes}
 use Rattle.un_walk.specs.Stands.{IsStandAt}
 use Rattle.un_walk.specs.Turns.{paths_at}
@@ -24,10 +24,11 @@ Leads branch [] before behind = before ≡ behind
 Leads branch (n ∷ ns) [] behind = ⊥
 Leads branch (n ∷ ns) (path ∷ paths) behind = Leads branch ns (paths_after (branch n) path paths) behind
 
--- a tree that can be shortened: whole, without an open leaf, and each branch has both sides
+-- a tree that can be shortened: whole, without an open leaf and without a Split, and each branch has both sides
 pub record IsShortenable (m : Model) (nodes : List Node) : Type 0 where
-  pub whole : IsTreeOf (root_of m) nodes
-  pub strict : All IsStrict (visits_of (root_of m) nodes)
+  pub whole : IsTreeOf (length m.ext.blocks) (root_of m) nodes
+  pub plain : All IsPlain nodes
+  pub strict : All HasSides (visits_of (length m.ext.blocks) (root_of m) nodes)
   pub closed : All (λ n. n ≢ Open) nodes
 
 -- a node of a search's tree as one of a tree with mirrors
@@ -35,6 +36,8 @@ abbrev pub IsSameNode : Node → SymNode → Type 0
 IsSameNode (Branch v x) s = s ≡ SymBranch v x
 IsSameNode Closed s = s ≡ SymClosed
 IsSameNode Open s = ⊥
+IsSameNode Split s = ⊥
+IsSameNode (Part number) s = ⊥
 
 -- the node is a mirror, and mirrors at the end of the path
 abbrev pub IsMirrorHere : Model → List Decision → SymNode → Type 0

@@ -1,10 +1,10 @@
 //! Trees shortened: a subtree in whose place a mirror of two neighbouring registers stands on the nearest branch is put as that mirror.
 
-ghost use Rattle.std.specs.Prelude.{◌≡◌, ◌≢◌, ◌<◌, ◌++◌, ◌∷◌, [], ℕ, true, All, OnOk, IfOk, IfSome, IfNone};
+ghost use Rattle.std.specs.Prelude.{◌≡◌, ◌≢◌, ◌<◌, ◌++◌, ◌∷◌, [], ℕ, true, All, OnOk, IfOk, IfSome, IfNone, length};
 ghost use Rattle.un_domains.specs.Domains.{IsDomain};
 ghost use Rattle.un_model.specs.Boxes.{root_of};
 ghost use Rattle.un_model.specs.Variables.{IsModel};
-ghost use Rattle.un_tree.specs.Waits.{IsStrict, IsTreeOf, visits_of};
+ghost use Rattle.un_tree.specs.Waits.{HasSides, IsPlain, IsTreeOf, visits_of};
 ghost use Rattle.un_tree.specs.declared.node.Node.TheVariants.{Open};
 ghost use Rattle.un_symtree.specs.SymTexts.{SymFits};
 ghost use Rattle.un_walk.specs.Routes.{IsWholeBy};
@@ -116,7 +116,8 @@ fn push(nodes: &mut Vec<SymNode>, node: SymNode) -> Result<(), NoMemory>
 
 /// A node that is kept.
 fn same_node(node: Node) -> SymNode
-    requires { node ≢ Open }
+    requires closed { node ≢ Open }
+    requires plain { IsPlain node }
     ensures same { IsSameNode node result }
     ensures fits { SymFits result }
 {
@@ -124,6 +125,8 @@ fn same_node(node: Node) -> SymNode
         Node::Branch { var, val } => SymNode::Branch { var, val },
         Node::Closed => SymNode::Closed,
         Node::Open => unreachable!(),
+        Node::Split => unreachable!(),
+        Node::Part { .. } => unreachable!(),
     }
 }
 
@@ -161,7 +164,7 @@ fn put(m: &Model, nodes: &[Node], work: &mut Work, mirror: SymNode) -> Result<()
     Ok(())
 }
 
-/// A whole tree without open leaves, each of whose branches has both sides, shortened in one pass: each subtree is put as a mirror
+/// A whole tree without open leaves and without a Split, each of whose branches has both sides, shortened in one pass: each subtree is put as a mirror
 /// where a mirror of two neighbouring registers stands there on the nearest branch on whose right side it is.
 ///
 /// # Errors
@@ -169,8 +172,9 @@ fn put(m: &Model, nodes: &[Node], work: &mut Work, mirror: SymNode) -> Result<()
 pub fn shorten(alloc: Global, m: &Model, t: &Tree) -> Result<SymTree, NoMemory>
     requires model { IsModel m.now }
     requires domains { All IsDomain m.now.domains }
-    requires whole { IsTreeOf (root_of m.now) t.now.nodes.items }
-    requires strict { All IsStrict (visits_of (root_of m.now) t.now.nodes.items) }
+    requires whole { IsTreeOf (length m.now.ext.blocks) (root_of m.now) t.now.nodes.items }
+    requires plain { All IsPlain t.now.nodes.items }
+    requires strict { All HasSides (visits_of (length m.now.ext.blocks) (root_of m.now) t.now.nodes.items) }
     requires closed { All (λ n. n ≢ Open) t.now.nodes.items }
     ensures cuts { IfOk result (λ u. IsShortOf t.now.nodes.items u.nodes.items) }
     ensures whole { IfOk result (λ u. IsWholeBy sym_branch_at u.nodes.items ([] ∷ [])) }

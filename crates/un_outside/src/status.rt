@@ -14,8 +14,12 @@ pub enum NoCause {
     Cost,
     /// The listing is not the solution's code.
     Listing,
-    /// The tree's node at this place, from 0, is a branch that does not split its variable's values.
+    /// The tree's node at this place, from 0, is a branch that does not split its variable's values, or one in a part on a variable
+    /// that is not of the part's block.
     Strict(u32),
+    /// The tree's node at this place, from 0, is a Split at which something has two values or whose parts refute too little, or a node of
+    /// a kind that cannot stand there.
+    Split(u32),
     /// The tree's node at this place, from 0, is a branch or an open leaf whose box has no relaxed schedule.
     Alive(u32),
     /// The tree's node at this place, from 0, is a closed leaf that propagation does not refute.

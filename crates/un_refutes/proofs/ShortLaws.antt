@@ -12,7 +12,7 @@ use Rattle.un_model.specs.declared.model.Model.{Model}
 use Rattle.un_post.specs.Posts.{fix_at}
 use Rattle.un_tree.specs.Boxes.{reached}
 use Rattle.un_tree.specs.Searched.{IsSearched}
-use Rattle.un_tree.specs.Waits.{Visit, visits_of}
+use Rattle.un_tree.specs.Waits.{Visit, IsPlain}
 use Rattle.un_tree.specs.declared.node.Decision.{Decision}
 use Rattle.un_tree.specs.declared.node.Node.{Node}
 use Rattle.un_tree.specs.declared.node.Node.TheVariants.{Closed}
@@ -23,6 +23,7 @@ use Rattle.un_symtree.specs.declared.node.SymNode.TheVariants.{Branch as SymBran
 use Rattle.un_mirrors.specs.Mirrors.{sym_branch_at}
 use Rattle.un_mirrors.specs.Shortened.{IsKept, IsOneTree, IsShortOf, SplitsAt, MirrorsAt, StandsAt, sym_routes, tree_routes}
 use Rattle.un_symtree.specs.declared.node.SymTree.{SymTree}
+use Rattle.un_certificate.specs.Joints.{blocks_of, visits_in}
 use Rattle.un_refutes.specs.SymVerdicts.{IsSymVerdict, Keeps, KeepsAt}
 use Rattle.un_refutes.specs.declared.verdict.SymVerdict.TheVariants.{Yes}
 
@@ -32,11 +33,13 @@ unmapped : (P : Visit → Type 0) (f : Route Node → Visit) (rs : List (Route N
 unmapped P f [] h = tt
 unmapped P f (r ∷ rs) h = (h.0, unmapped P f rs h.1)
 
-module _ (m : Model) (limit : Option ℕ) (t : List Node) (searched : All (IsSearched (fix_at m limit)) (visits_of (root_of m) t)) where
+module _ (m : Model) (limit : Option ℕ) (t : List Node) (plain : All IsPlain t)
+    (searched : All (IsSearched (fix_at m limit)) (visits_in m t)) where
   by_routes : All (λ (r : Route Node). IsSearched (fix_at m limit) (visit_at (root_of m) r)) (tree_routes t)
   by_routes = All-from_recursion _ (tree_routes t) (unmapped (IsSearched (fix_at m limit)) (visit_at (root_of m)) (tree_routes t)
       (recursion_from_All (IsSearched (fix_at m limit)) (map (visit_at (root_of m)) (tree_routes t))
-      (subst (All (IsSearched (fix_at m limit))) (visits_are (root_of m) 0 t ([] ∷ [])) searched)))
+      (subst (All (IsSearched (fix_at m limit)))
+      (visits_are (blocks_of m) (root_of m) 0 t ([] ∷ []) (recursion_from_All IsPlain t plain)) searched)))
 
   -- the rounds fail at a closed leaf of a search's tree
   leaf_lost : (path : List Decision) → StandsAt t Closed path → fix_at m limit (reached (root_of m) path) ≡ None
@@ -85,15 +88,15 @@ sym_some (n ∷ ns) whole = omega arith
 -- ---- what shortening answers
 
 pub yes_of : (m : Model) (limit : ℕ) (t : List Node) (result : Result SymTree NoMemory)
-    → All (IsSearched (fix_at m (Some limit))) (visits_of (root_of m) t)
+    → All IsPlain t → All (IsSearched (fix_at m (Some limit))) (visits_in m t)
     → IfOk result (λ u. IsWholeBy sym_branch_at u.nodes.items ([] ∷ []))
     → IfOk result (λ u. All (λ (r : Route SymNode). IsKept t r.node r.path) (sym_routes u.nodes.items))
     → IfOk result (λ u. All (λ (r : Route SymNode). SplitsAt (root_of m) r.node r.path) (sym_routes u.nodes.items))
     → IfOk result (λ u. All (λ (r : Route SymNode). MirrorsAt m r.node r.path) (sym_routes u.nodes.items))
     → IfOk result (λ u. IsSymVerdict m limit u.nodes.items Yes)
-yes_of m limit t (Err e) searched whole kept splits mirrors = tt
-yes_of m limit t (Ok u) searched whole kept splits mirrors =
-    record { whole = whole; kept = all_keep m (Some limit) t searched u.nodes.items kept splits mirrors }
+yes_of m limit t (Err e) plain searched whole kept splits mirrors = tt
+yes_of m limit t (Ok u) plain searched whole kept splits mirrors =
+    record { whole = whole; kept = all_keep m (Some limit) t plain searched u.nodes.items kept splits mirrors }
 
 pub few_of : (t : List Node) (result : Result SymTree NoMemory) → IfOk result (λ u. IsShortOf t u.nodes.items)
     → IfOk result (λ u. length u.nodes.items ≤ length t)

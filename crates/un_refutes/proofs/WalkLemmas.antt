@@ -1,15 +1,19 @@
 -- How far the check of a tree with mirrors has come, node after node.
-use Rattle.std.proofs.Common.{ℕ, ◌≡◌, ◌+◌, Bool, true, false, List, [], ◌∷◌, ◌++◌, Some, All, refl, sym, ap, subst, ◌∙◌, append_assoc}
+use Rattle.std.proofs.Common.{ℕ, ◌≡◌, ◌+◌, Bool, true, false, List, [], ◌∷◌, ◌++◌, Some, IfSome, All, refl, sym, ap, subst, ◌∙◌, append_assoc}
 use Rattle.std.specs.declared.option.Option.{Option}
 use Rattle.std.proofs.lemmas.List.{append-nil}
 use Rattle.std.proofs.lemmas.List.Elements.{All-nil, All-push, All-same}
+use Rattle.un_base.specs.declared.ids.VarId.{VarId}
 use Rattle.un_model.specs.declared.model.Model.{Model}
+use Rattle.un_tree.specs.Boxes.{Splits}
 use Rattle.un_tree.specs.declared.node.Decision.{Decision}
 use Rattle.un_symtree.specs.declared.node.SymNode.{SymNode}
 use Rattle.un_symtree.specs.declared.node.SymNode.TheVariants.{Branch, Closed, Mirror}
 use Rattle.un_walk.specs.Routes.{IsWholeBy, Route, paths_after, routes}
 use Rattle.un_walk.specs.Turns.{paths_at, paths_behind}
-use Rattle.un_stand.specs.Rooms.{path_of}
+use Rattle.un_stand.proofs.ModelRooms.{at_split}
+use Rattle.un_stand.specs.Rooms.{IsAt, path_of}
+use Rattle.un_stand.specs.declared.room.Room.{Room}
 use Rattle.un_mirrors.specs.Mirrors.{sym_branch_at}
 use Rattle.un_refutes.specs.SymVerdicts.{Breaks, IsFirstBreak, IsVerdict, Keeps, KeepsAt, point_of, routes_of}
 use Rattle.un_refutes.specs.SymWalks.{IsJudged, IsWalk}
@@ -31,6 +35,17 @@ first_walk m limit nodes w path more place =
       forth = λ h. subst (IsWholeBy sym_branch_at nodes) (sym one) h;
       back = λ h. subst (IsWholeBy sym_branch_at nodes) one h;
     }
+
+-- what splits the box of a room where a node that keeps its point branches
+pub strict_at : (m : Model) (limit : Option ℕ) (r : Room) → IsAt m limit r → (n : SymNode) (b : Option (VarId × ℕ)) → b ≡ sym_branch_at n
+    → KeepsAt m limit n (path_of r) → IfSome b (λ (x : VarId × ℕ). Splits r.stand.cuts.sets x.0 x.1)
+strict_at m limit r h n b is keeps =
+    subst (λ (o : Option (VarId × ℕ)). IfSome o (λ (x : VarId × ℕ). Splits r.stand.cuts.sets x.0 x.1)) (sym is) (by n keeps)
+  where
+    by : (n : SymNode) → KeepsAt m limit n (path_of r) → IfSome (sym_branch_at n) (λ (x : VarId × ℕ). Splits r.stand.cuts.sets x.0 x.1)
+    by (Branch v x) keeps = at_split m limit r h v x keeps
+    by Closed keeps = tt
+    by (Mirror a b depth) keeps = tt
 
 -- ---- a node more
 

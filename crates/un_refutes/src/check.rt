@@ -20,7 +20,7 @@ use std::alloc::Global;
 use un_base::memory_error::NoMemory;
 use un_mirrors::registers::registers_of;
 use un_model::model::Model;
-use un_post::post::post;
+use un_post::post::{Posted, post};
 use un_stand::room::first_room;
 use un_stand::rules::Rules;
 use un_symtree::node::SymTree;
@@ -36,7 +36,14 @@ fn begin(alloc: Global, rules: &Rules) -> Result<Walk, NoMemory>
     ensures walk { IfOk result (λ walk. (nodes : List SymNode) → IsWalk rules.now.m.now rules.now.limit nodes nodes walk) }
 {
     let posted = post(alloc, rules.m, rules.limit)?;
-    let room = first_room(alloc, rules, posted)?;
+    let cuts = posted.store.copy(alloc)?;
+    let Posted {
+        props,
+        store,
+        horizon,
+        ..
+    } = posted;
+    let room = first_room(alloc, cuts, props, store, horizon)?;
     Ok(Walk {
         room,
         more: true,

@@ -4,7 +4,7 @@ use Rattle.std.specs.Fmt.{digits}
 use Rattle.un_report.specs.Reports.{head_text, numbers_text, solution_text, model_text, costs_text, answer_text, tree_part}
 use Rattle.un_report.specs.declared.report.Report.{Report}
 use Rattle.un_report.specs.declared.report.Answered.TheVariants.{Infeasible, Spent}
-use Rattle.un_tree.specs.declared.node.Node.TheVariants.{Branch, Closed, Open}
+use Rattle.un_tree.specs.declared.node.Node.TheVariants.{Branch, Closed, Open, Split, Part}
 
 -- the first line of a report of each version
 first_head : (r : Report) → r.version ≡ 1 → r.name ≡ codes "f" → r.options ≡ record { regs = None; slots = 64 } → r.nodes ≡ 1
@@ -44,9 +44,14 @@ closed_tree : tree_part (Closed ∷ []) ≡ codes "tree 1\nC\nend\n"
 unfolding digits
 closed_tree = refl
 
-split_tree : tree_part (Branch (record { 0 = 122 }) 2 ∷ Open ∷ Closed ∷ []) ≡ codes "tree 3\nB 122 2\nO\nC\nend\n"
+branch_tree : tree_part (Branch (record { 0 = 122 }) 2 ∷ Open ∷ Closed ∷ []) ≡ codes "tree 3\nB 122 2\nO\nC\nend\n"
 unfolding digits
-split_tree = refl
+branch_tree = refl
+
+-- the lines of parts are counted
+parts_tree : tree_part (Split ∷ Part (Some 3) ∷ Closed ∷ Part None ∷ Closed ∷ []) ≡ codes "tree 5\nS\nP 3\nC\nP -\nC\nend\n"
+unfolding digits
+parts_tree = refl
 
 -- sixteen numbers stand on a line, and the last line ends too
 seventeen : solution_text (16 ∷ 17 ∷ 18 ∷ 19 ∷ 20 ∷ 21 ∷ 22 ∷ 23 ∷ 24 ∷ 25 ∷ 26 ∷ 27 ∷ 31 ∷ 0 ∷ 0 ∷ 0 ∷ 7 ∷ [])

@@ -150,7 +150,7 @@ pub behind_tree : (l : Limits) (t : Lines) (text rest : List ℕ) (line : ℕ) �
 behind_tree l t text rest line good whole bad =
     let nodes = good.1.nodes in
     let counted = good.1.are.0 in
-    let in_nodes : InNodes t.count (t.text.now ++ rest) (t.count + line) =
+    let in_nodes : InNodes l t.count (t.text.now ++ rest) (t.count + line) =
     inr (record {
       value = nodes;
       rest = rest;
@@ -161,7 +161,7 @@ behind_tree l t text rest line good whole bad =
       numbered = omega (arith, counted);
     }) in
     let in_tree : InTree l text (1 + (t.count + line)) =
-    behind_line (AreFewLines l) tree_head InNodes t.count text (t.text.now ++ rest) (t.count + line) good.0
+    behind_line (AreFewLines l) tree_head (InNodes l) t.count text (t.text.now ++ rest) (t.count + line) good.0
     (two_parts text (tree_head t.count) t.text.now rest whole) in_nodes in
     let all : 1 + (t.count + line) ≡ 1 + t.count + line = omega arith in
     subst (λ (n : ℕ). InTree l text n) all in_tree

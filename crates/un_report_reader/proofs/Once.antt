@@ -11,8 +11,8 @@ use Rattle.un_model.specs.Options.{IsCountOfRegisters}
 use Rattle.un_report.specs.Reports.{regs_text}
 use Rattle.un_report_reader.proofs.Cuts.{behind_once, number_once}
 use Rattle.un_report_reader.proofs.Seams.{number_seam, function_seam, settings_seam}
-use Rattle.un_report_reader.specs.FirstBad.{IsBadBehind, InLine, IsBadNode}
-use Rattle.un_report_reader.specs.Limits.{AreSmall}
+use Rattle.un_report_reader.specs.FirstBad.{BeginsNoAllowed, IsBadBehind, InLine, IsBadNode}
+use Rattle.un_report_reader.specs.Limits.{AreSmall, IsAllowed}
 use Rattle.un_report_reader.specs.Lines.{one, number_text, IsName, function_text, AreSettings, settings_text, IsAny, kind_text, AreNodes}
 use Rattle.un_report_reader.specs.Lines.{IsPlain, end_text}
 use Rattle.un_report_reader.specs.Parts.{IsWithin}
@@ -21,7 +21,7 @@ use Rattle.un_report_reader.specs.declared.limits.Limits.{Limits}
 use Rattle.un_base.proofs.Cuts.{cut_once}
 use Rattle.un_tree.proofs.NodeLines.{digits_apart}
 use Rattle.un_tree.proofs.TreeTexts.{first_once, text_cons}
-use Rattle.un_tree.specs.Texts.{Fits, tree_text, BeginsNoNode}
+use Rattle.un_tree.specs.Texts.{Fits, tree_text}
 use Rattle.un_tree.specs.declared.node.Node.{Node}
 
 -- a good value is told by its text, whatever stands behind
@@ -137,26 +137,27 @@ nodes_once (n ∷ ns) (m ∷ ms) a b f g long e =
     let next = nodes_once ns ms a b f.1 g.1 (omega (arith, long)) first.1 in
     (ap (λ (k : Node). k ∷ ns) first.0 ∙ ap (λ (ks : List Node). m ∷ ks) next.0, next.1)
 
-pub tree_once : (count : ℕ) → Once (AreNodes count) tree_text
-tree_once count v w a b gv gw e =
+pub tree_once : (l : Limits) (count : ℕ) → Once (AreNodes l count) tree_text
+tree_once l count v w a b gv gw e =
     let one_way = gv.0 in
     let other = gw.0 in
     nodes_once v w a b (recursion_from_All Fits v gv.1) (recursion_from_All Fits w gw.1) (omega (arith, one_way, other)) e
 
-node_stands : (before ns : List Node) (rest a : List ℕ) → AllByRecursion Fits before → AllByRecursion Fits ns → length before < length ns
-    → tree_text before ++ rest ≡ tree_text ns ++ a → BeginsNoNode rest → ⊥
-node_stands before [] rest a f g few e none = absurd (omega (arith, few))
-node_stands [] (n ∷ ns) rest a f g few e none = none n (tree_text ns ++ a) g.0 (e ∙ text_cons n ns a)
-node_stands (m ∷ ms) (n ∷ ns) rest a f g few e none =
+node_stands : (l : Limits) (before ns : List Node) (rest a : List ℕ) → AllByRecursion Fits before → AllByRecursion Fits ns
+    → AllByRecursion (IsAllowed l) ns → length before < length ns → tree_text before ++ rest ≡ tree_text ns ++ a → BeginsNoAllowed l rest → ⊥
+node_stands l before [] rest a f g h few e none = absurd (omega (arith, few))
+node_stands l [] (n ∷ ns) rest a f g h few e none = none n (tree_text ns ++ a) g.0 h.0 (e ∙ text_cons n ns a)
+node_stands l (m ∷ ms) (n ∷ ns) rest a f g h few e none =
     let first = first_once m n (tree_text ms ++ rest) (tree_text ns ++ a) f.0 g.0 (sym (text_cons m ms rest) ∙ (e ∙ text_cons n ns a)) in
-    node_stands ms ns rest a f.1 g.1 (omega (arith, few)) first.1 none
+    node_stands l ms ns rest a f.1 g.1 h.1 (omega (arith, few)) first.1 none
 
-pub no_bad_node : (count : ℕ) (ns : List Node) (rest text : List ℕ) (line : ℕ) → AreNodes count ns → text ≡ tree_text ns ++ rest
-    → IsBadNode count text line → ⊥
-no_bad_node count ns rest text line are is bad =
+pub no_bad_node : (l : Limits) (count : ℕ) (ns : List Node) (rest text : List ℕ) (line : ℕ) → AreNodes l count ns → text ≡ tree_text ns ++ rest
+    → IsBadNode l count text line → ⊥
+no_bad_node l count ns rest text line are is bad =
     let long = are.0 in
     let few = bad.few in
-    node_stands bad.before ns bad.rest rest (recursion_from_All Fits bad.before bad.fit) (recursion_from_All Fits ns are.1)
+    node_stands l bad.before ns bad.rest rest (recursion_from_All Fits bad.before bad.fit) (recursion_from_All Fits ns are.1)
+    (recursion_from_All (IsAllowed l) ns are.2)
     (omega (arith, long, few)) (sym bad.whole ∙ is) bad.is_bad
 
 -- ---- the end

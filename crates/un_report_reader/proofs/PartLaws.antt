@@ -146,16 +146,16 @@ codes_bad l at second (Err e) k h = past_line IsAny kind_text (BehindKind l) at 
 
 -- ---- the tree
 
-pub own_nodes : (count : ℕ) (at : Place) (e : ReportError) → IsErrorAt (IsBadNode count) at e → IsErrorAt (InNodes count) at e
-own_nodes count at e h = weaker (IsBadNode count) (InNodes count) at e (λ line b. inl b) h
+pub own_nodes : (l : Limits) (count : ℕ) (at : Place) (e : ReportError) → IsErrorAt (IsBadNode l count) at e → IsErrorAt (InNodes l count) at e
+own_nodes l count at e h = weaker (IsBadNode l count) (InNodes l count) at e (λ line b. inl b) h
 
 pub tree_read : (l : Limits) (at : Place) (count : ℕ) (second : Place) (t : Lines) (next : Place) → IsRead (AreFewLines l) tree_head one at count second
-    → t.count ≡ count → IsNodesRead count second t.text.now next → IsTreeRead l at t next
+    → t.count ≡ count → IsNodesRead l count second t.text.now next → IsTreeRead l at t next
 tree_read l at count second t next c is n =
     let one_way = c.numbered in
     let other = n.numbered in
     record {
-      is_good = subst (λ (k : ℕ). AreFewLines l k × AreNodeLines k t.text.now) (sym is) (c.is_good, n.is_good);
+      is_good = subst (λ (k : ℕ). AreFewLines l k × AreNodeLines l k t.text.now) (sym is) (c.is_good, n.is_good);
       whole = two_reads at.rest.now (tree_head t.count) t.text.now second.rest.now next.rest.now
           (c.whole ∙ ap (λ (k : ℕ). tree_head k ++ second.rest.now) (sym is)) n.whole;
       numbered = omega (arith, one_way, other, is);

@@ -1,5 +1,5 @@
 -- Views of reports: which report one is of, and what reading one answers.
-use Rattle.std.proofs.Common.{◌≡◌, ℕ, List, [], ◌++◌, Result, Ok, Err, IfOk, IfErr, codes, length, refl, sym, ap, ◌∙◌, subst}
+use Rattle.std.proofs.Common.{◌≡◌, ℕ, List, [], ◌++◌, All, Result, Ok, Err, IfOk, IfErr, codes, length, refl, sym, ap, ◌∙◌, subst}
 use Rattle.std.proofs.Common.{append_assoc}
 use Rattle.un_report.specs.Reports.{answer_text, report_text}
 use Rattle.un_report.specs.Views.{IsViewOf, view_text}
@@ -16,7 +16,7 @@ use Rattle.un_report_reader.specs.Answers.{IsAnswer, answer_lines}
 use Rattle.un_report_reader.specs.Errors.{IsErrorAt, IsRead}
 use Rattle.un_report_reader.specs.FirstBad.{InVersion, InAnswer, InTree, InEnd}
 use Rattle.un_report_reader.specs.Heads.{HeadValue, IsHead, head_text, three}
-use Rattle.un_report_reader.specs.Limits.{limits_of}
+use Rattle.un_report_reader.specs.Limits.{limits_of, IsAllowed}
 use Rattle.un_report_reader.specs.Lines.{version_text, function_text, settings_text, tree_head, end_text}
 use Rattle.un_report_reader.specs.Readings.{IsReport, IsView, IsErrorOf, IsViewRead, IsViewBack, IsReportRead, AreSame, IsReportBack}
 use Rattle.un_report_reader.specs.Trees.{IsTree, lines_text, tree_lines, IsTreeRead}
@@ -64,7 +64,7 @@ view_read text at h second a third t fourth v same r s u ends version name optio
     nodes = rw nodes (r.is_good.2.1);
     answer = rw (version, answer) s.is_good;
     count = rw (version, count) u.is_good.0;
-    tree = rw (tree, count) u.is_good.1;
+    tree = rw (version, tree, count) u.is_good.1;
   };
   spelled = sym same ∙ (whole ∙ (sym (flat_seam h.0 h.1 h.2 h.3 a t.count t.text.now) ∙ sym flats));
 }
@@ -123,7 +123,9 @@ same_reports v r s gr gs of_r of_s =
       options = sym of_s.options ∙ of_r.options;
       nodes = sym of_s.nodes ∙ of_r.nodes;
       answer = sym of_s.answer ∙ of_r.answer;
-      tree = (tree_once (length r.tree.nodes.items) s.tree.nodes.items r.tree.nodes.items [] [] (nodes, gs.fit) (refl, gr.fit)
+      tree = (tree_once (limits_of r.version) (length r.tree.nodes.items) s.tree.nodes.items r.tree.nodes.items [] []
+          (nodes, gs.fit, subst (λ (w : ℕ). All (IsAllowed (limits_of w)) s.tree.nodes.items) (sym of_s.version ∙ of_r.version) gs.allowed)
+          (refl, gr.fit, gr.allowed)
           (ap (λ (t : List ℕ). t ++ []) trees)).0;
     }
 
@@ -140,6 +142,7 @@ report_made v s h version name options nodes answer tree =
         answer = rw (version, answer) h.answer;
         count = rw (version, tree, counted) h.count;
         fit = rw tree h.tree.are.1;
+        allowed = rw (version, tree) h.tree.are.2;
       },
       record {
         version = sym version;

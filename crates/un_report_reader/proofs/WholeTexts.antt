@@ -1,5 +1,5 @@
 -- Reports are told by their texts, and no line of one is bad.
-use Rattle.std.proofs.Common.{◌≡◌, ℕ, ◌-◌, ◌^◌, inl, inr, List, [], ◌∷◌, ◌++◌, codes, decimal, length}
+use Rattle.std.proofs.Common.{◌≡◌, ℕ, ◌-◌, ◌^◌, inl, inr, List, [], ◌∷◌, ◌++◌, All, codes, decimal, length}
 use Rattle.std.proofs.Common.{refl, sym, ap, ◌∙◌, subst, arith, append_assoc}
 use Rattle.un_isa.specs.Versions.{IsVersion}
 use Rattle.un_isa.specs.declared.table.TheConstants.{LAST}
@@ -16,7 +16,7 @@ use Rattle.un_report.specs.declared.view.ReportView.{ReportView}
 use Rattle.un_report_reader.specs.Answers.{IsListed, AreValues, kind_of, IsAnswer, behind_kind}
 use Rattle.un_report_reader.specs.FirstBad.{BehindKind, InVersion, InFunction, InModel, InAnswer, InCost, InBound, InListing, InCode}
 use Rattle.un_report_reader.specs.FirstBad.{InSolution, InNumbers, InTree, InNodes, InEnd, InNothing, numbers_lines, lines_in_code}
-use Rattle.un_report_reader.specs.Limits.{AreSmall, AreFewLines, limits_of}
+use Rattle.un_report_reader.specs.Limits.{AreSmall, AreFewLines, IsAllowed, limits_of}
 use Rattle.un_report_reader.specs.Lines.{version_text, IsName, function_text, AreSettings, settings_text, IsAny, kind_text}
 use Rattle.un_report_reader.specs.Lines.{number_text, IsLong, IsShort, cost_text, bound_text, listing_head, HasLines, solution_head, AreNumbers}
 use Rattle.un_report_reader.specs.Lines.{tree_head, AreNodes, IsPlain, end_text}
@@ -61,19 +61,19 @@ solution_once count v w a b gv gw e =
 
 -- ---- no line is bad
 
-tree_is_good : (l : Limits) → AreSmall l → (count : ℕ) (nodes : List Node) (text : List ℕ) (line : ℕ) → AreFewLines l count → AreNodes count nodes
+tree_is_good : (l : Limits) → AreSmall l → (count : ℕ) (nodes : List Node) (text : List ℕ) (line : ℕ) → AreFewLines l count → AreNodes l count nodes
     → text ≡ tree_head count ++ (tree_text nodes ++ codes "end\n") → InTree l text line → ⊥
 tree_is_good l small count nodes text line some are is bad =
-    good_line (AreFewLines l) tree_head InNodes (count_once l small) count text (tree_text nodes ++ codes "end\n") line some is
+    good_line (AreFewLines l) tree_head (InNodes l) (count_once l small) count text (tree_text nodes ++ codes "end\n") line some is
     (λ k in_nodes. by k in_nodes) bad
   where
     ended : (k : ℕ) → InEnd (codes "end\n") k → ⊥
     ended k in_end = good_line IsPlain end_text (λ v. InNothing) end_once tt (codes "end\n") [] k tt refl (λ j nothing. nothing.0 refl) in_end
 
-    by : (k : ℕ) → InNodes count (tree_text nodes ++ codes "end\n") k → ⊥
-    by k (inl own) = no_bad_node count nodes (codes "end\n") (tree_text nodes ++ codes "end\n") k are refl own
+    by : (k : ℕ) → InNodes l count (tree_text nodes ++ codes "end\n") k → ⊥
+    by k (inl own) = no_bad_node l count nodes (codes "end\n") (tree_text nodes ++ codes "end\n") k are refl own
     by k (inr behind) =
-        good_behind (AreNodes count) tree_text length (λ ns. InEnd) (tree_once count) nodes (tree_text nodes ++ codes "end\n")
+        good_behind (AreNodes l count) tree_text length (λ ns. InEnd) (tree_once l count) nodes (tree_text nodes ++ codes "end\n")
         (codes "end\n") k are refl ended behind
 
 solution_is_good : (l : Limits) (xs text rest : List ℕ) (line : ℕ) → AreValues xs → text ≡ solution_text xs ++ rest → ((k : ℕ) → InTree l rest k → ⊥)
@@ -138,7 +138,7 @@ pub record IsText (text : List ℕ) (version : ℕ) (name : List ℕ) (options :
       ++ (tree_head count ++ (tree ++ codes "end\n")))))
 
 pub text_is_good : (text : List ℕ) (version : ℕ) (name : List ℕ) (options : Options) (nodes : ℕ) (answer : Answered) (count : ℕ) (ns : List Node) (line : ℕ)
-    → IsText text version name options nodes answer count (tree_text ns) → AreNodes count ns → InVersion text line → ⊥
+    → IsText text version name options nodes answer count (tree_text ns) → AreNodes (limits_of version) count ns → InVersion text line → ⊥
 text_is_good text version name options nodes answer count ns line h are bad =
     let l : Limits = limits_of version in
     let small = limits_small version in
@@ -217,7 +217,8 @@ pub record AreTold (version version' : ℕ) (name name' : List ℕ) (options opt
 
 pub told : (text : List ℕ) (version version' : ℕ) (name name' : List ℕ) (options options' : Options) (nodes nodes' : ℕ) (answer answer' : Answered) (count count' : ℕ)
     (ns ns' : List Node) → IsText text version name options nodes answer count (tree_text ns)
-    → IsText text version' name' options' nodes' answer' count' (tree_text ns') → AreNodes count ns → AreNodes count' ns'
+    → IsText text version' name' options' nodes' answer' count' (tree_text ns') → AreNodes (limits_of version) count ns
+    → AreNodes (limits_of version') count' ns'
     → AreTold version version' name name' options options' nodes nodes' answer answer' count count' ns ns'
 told text version version' name name' options options' nodes nodes' answer answer' count count' ns ns' h k are are' =
     let versions = version_once version version' _ _ h.versioned k.versioned (sym h.whole ∙ k.whole) in
@@ -233,7 +234,8 @@ told text version version' name name' options options' nodes nodes' answer answe
     let long = are.0 in
     let long' = are'.0 in
     let same = counts.0 in
-    let trees = tree_once count' ns ns' (codes "end\n") (codes "end\n") (omega (arith, long, same), are.1) are' counts.1 in
+    let allowed = subst (λ (v : ℕ). All (IsAllowed (limits_of v)) ns) versions.0 are.2 in
+    let trees = tree_once l count' ns ns' (codes "end\n") (codes "end\n") (omega (arith, long, same), are.1, allowed) are' counts.1 in
     record {
       same_version = versions.0;
       same_name = names.0;
@@ -313,7 +315,7 @@ pub view_back : (text : List ℕ) (r : Report) (v : ReportView) → IsReport r �
     → IsViewOf r v
 view_back text r v good is h spelled =
     let t = told text v.version r.version v.name.now r.name v.options r.options v.nodes r.nodes v.answer r.answer v.count (length r.tree.nodes.items)
-    h.tree.nodes r.tree.nodes.items (view_parts text v h spelled) (report_parts text r good is) h.tree.are (refl, good.fit) in
+    h.tree.nodes r.tree.nodes.items (view_parts text v h spelled) (report_parts text r good is) h.tree.are (refl, good.fit, good.allowed) in
     record {
       version = t.same_version;
       name = t.same_name;
@@ -329,4 +331,4 @@ pub error_back : (text : List ℕ) (r : Report) (e : ReportError) → IsReport r
 error_back text r NoMemory good is bad = refl
 error_back text r (BadReport line) good is bad =
     absurd (text_is_good text r.version r.name r.options r.nodes r.answer (length r.tree.nodes.items) r.tree.nodes.items line
-    (report_parts text r good is) (refl, good.fit) bad)
+    (report_parts text r good is) (refl, good.fit, good.allowed) bad)

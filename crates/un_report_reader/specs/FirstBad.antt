@@ -1,7 +1,7 @@
 -- The first line of a text that is outside the grammar of reports. Each relation here is of what is left of a text at a part of a
 -- report and of a line, counted from there: the part is not there, and this is its first bad line, or it is, and the line is behind it.
 -- What stands behind the version is read by the version's limits.
-use Rattle.std.specs.Prelude.{ℕ, ◌≡◌, ◌≢◌, ◌+◌, ◌/◌, ◌<◌, ◌≤◌, ◌⊎◌, List, [], ◌++◌, All, codes, decimal, length, take}
+use Rattle.std.specs.Prelude.{ℕ, ◌≡◌, ◌≢◌, ◌+◌, ◌/◌, ◌<◌, ◌≤◌, ◌⊎◌, List, [], ◌∷◌, ◌++◌, All, codes, decimal, length, take}
 use Rattle.std.specs.List.{concat}
 use Rattle.un_base.specs.Lines.{pieces_of}
 use Rattle.un_isa.specs.Versions.{IsVersion}
@@ -13,12 +13,12 @@ use Rattle.un_report.specs.Reports.{after_number, numbers_from, numbers_text}
 use Rattle.un_report_reader.specs.declared.kind.Kind.{Kind}
 use Rattle.un_report_reader.specs.declared.kind.Kind.TheVariants as KindOf
 use Rattle.un_report_reader.specs.declared.limits.Limits.{Limits}
-use Rattle.un_report_reader.specs.Limits.{limits_of, AreFewLines}
+use Rattle.un_report_reader.specs.Limits.{limits_of, AreFewLines, IsAllowed}
 use Rattle.un_report_reader.specs.Lines.{one, version_text, IsName, function_text, AreSettings, settings_text, IsAny, kind_text}
 use Rattle.un_report_reader.specs.Lines.{IsLong, IsShort, cost_text, bound_text, listing_head, HasLines, solution_head, AreNumbers}
 use Rattle.un_report_reader.specs.Lines.{line_count, tree_head, AreNodes, IsPlain, end_text}
 use Rattle.un_tree.specs.declared.node.Node.{Node}
-use Rattle.un_tree.specs.Texts.{Fits, tree_text, BeginsNoNode}
+use Rattle.un_tree.specs.Texts.{Fits, node_line, tree_text}
 
 -- ---- parts
 
@@ -56,21 +56,26 @@ InEnd = InLine IsPlain end_text (λ v. InNothing)
 
 -- ---- the tree
 
--- the lines so far are those of fewer nodes, and the next is no node's
-pub record IsBadNode (count : ℕ) (text : List ℕ) (line : ℕ) : Type 0 where
+-- no line of a node that the report may have is the first line of the text
+abbrev pub BeginsNoAllowed : Limits → List ℕ → Type 0
+BeginsNoAllowed l text = (n : Node) (rest : List ℕ) → Fits n → IsAllowed l n → text ≢ node_line n ++ 10 ∷ rest
+
+-- the lines so far are those of fewer nodes, and the next is no node's that the report may have
+pub record IsBadNode (l : Limits) (count : ℕ) (text : List ℕ) (line : ℕ) : Type 0 where
   pub before : List Node
   pub rest : List ℕ
   pub fit : All Fits before
+  pub allowed : All (IsAllowed l) before
   pub few : length before < count
   pub whole : text ≡ tree_text before ++ rest
-  pub is_bad : BeginsNoNode rest
+  pub is_bad : BeginsNoAllowed l rest
   pub numbered : line ≡ length before + 1
 
-abbrev pub InNodes : ℕ → List ℕ → ℕ → Type 0
-InNodes count text line = IsBadNode count text line ⊎ IsBadBehind (AreNodes count) tree_text length (λ nodes. InEnd) text line
+abbrev pub InNodes : Limits → ℕ → List ℕ → ℕ → Type 0
+InNodes l count text line = IsBadNode l count text line ⊎ IsBadBehind (AreNodes l count) tree_text length (λ nodes. InEnd) text line
 
 abbrev pub InTree : Limits → List ℕ → ℕ → Type 0
-InTree l = InLine (AreFewLines l) tree_head InNodes
+InTree l = InLine (AreFewLines l) tree_head (InNodes l)
 
 -- ---- the solution
 

@@ -7,7 +7,7 @@ use Rattle.un_model.specs.declared.model.Options.{Options}
 use Rattle.un_packet.specs.declared.code.Code.{Code}
 use Rattle.un_report.specs.declared.report.TheConstants.{NUMBERS}
 use Rattle.un_report.specs.Reports.{model_text}
-use Rattle.un_report_reader.specs.Limits.{AreWithin}
+use Rattle.un_report_reader.specs.Limits.{AreWithin, IsAllowed}
 use Rattle.un_report_reader.specs.Parts.{IsWithin}
 use Rattle.un_report_reader.specs.declared.kind.Kind.{Kind}
 use Rattle.un_report_reader.specs.declared.kind.Kind.TheVariants as KindOf
@@ -85,12 +85,12 @@ line_count count = (count + (NUMBERS - 1)) / NUMBERS
 
 -- ---- the tree
 
--- how many nodes a tree has
+-- how many lines a tree has: one for each node
 abbrev pub tree_head : ℕ → List ℕ
 tree_head = number_text (codes "tree ")
 
-abbrev pub AreNodes : ℕ → List Node → Type 0
-AreNodes count nodes = (length nodes ≡ count) × All Fits nodes
+abbrev pub AreNodes : Limits → ℕ → List Node → Type 0
+AreNodes l count nodes = (length nodes ≡ count) × All Fits nodes × All (IsAllowed l) nodes
 
 abbrev pub IsPlain : Unit {0} → Type 0
 IsPlain v = Unit {0}

@@ -9,14 +9,14 @@ use Rattle.un_report.specs.declared.report.Report.{Report}
 use Rattle.un_report.specs.declared.view.ReportView.{ReportView}
 use Rattle.un_report_reader.specs.Answers.{IsAnswer, AreValues}
 use Rattle.un_report_reader.specs.FirstBad.{IsFirstBad, IsFirstBadAlone}
-use Rattle.un_report_reader.specs.Limits.{limits_of, AreWithin, AreFewLines}
+use Rattle.un_report_reader.specs.Limits.{limits_of, AreWithin, AreFewLines, IsAllowed}
 use Rattle.un_report_reader.specs.Lines.{IsName}
 use Rattle.un_report_reader.specs.Trees.{AreNodeLines}
 use Rattle.un_report_reader.specs.declared.error.ReportError.{ReportError}
 use Rattle.un_report_reader.specs.declared.error.ReportError.TheVariants.{NoMemory, BadReport}
 use Rattle.un_tree.specs.Texts.{Fits}
 
--- there is such a version, and the slots, the frame and the tree are within its limits; the nodes are those that a search may be asked
+-- there is such a version, and the slots, the frame and the tree with its nodes are within its limits; the nodes are those that a search may be asked
 -- for, the numbers fit, and the tree has some nodes
 pub record IsReport (r : Report) : Type 0 where
   pub version : IsVersion r.version
@@ -26,6 +26,7 @@ pub record IsReport (r : Report) : Type 0 where
   pub answer : IsAnswer (limits_of r.version) r.answer
   pub count : AreFewLines (limits_of r.version) (length r.tree.nodes.items)
   pub fit : All Fits r.tree.nodes.items
+  pub allowed : All (IsAllowed (limits_of r.version)) r.tree.nodes.items
 
 -- the same of a view, whose tree is the lines of so many nodes
 pub record IsView (v : ReportView) : Type 0 where
@@ -35,7 +36,7 @@ pub record IsView (v : ReportView) : Type 0 where
   pub nodes : IsCountOfNodes v.nodes
   pub answer : IsAnswer (limits_of v.version) v.answer
   pub count : AreFewLines (limits_of v.version) v.count
-  pub tree : AreNodeLines v.count v.tree.now
+  pub tree : AreNodeLines (limits_of v.version) v.count v.tree.now
 
 -- the text is that of a report, of which this is the view
 pub record IsViewRead (text : List ℕ) (v : ReportView) : Type 0 where

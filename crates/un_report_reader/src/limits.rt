@@ -3,7 +3,6 @@
 ghost use Rattle.std.specs.Prelude.{◌≡◌};
 ghost use Rattle.un_report_reader.specs.Limits.{AreSmall, limits_of};
 
-use un_commands::command::MOST_NODES;
 use un_isa::reg::{FRAME, SLOTS};
 
 // What reports of version 1 may have. These stay as they are.
@@ -13,12 +12,16 @@ pub(crate) const OLD_FRAME: u32 = 256;
 
 pub(crate) const OLD_LINES: u32 = 200_000;
 
-/// How many slots, bytes of a frame and lines of a tree a report may have.
+/// How many lines a tree may have.
+pub(crate) const LINES: u32 = 400_000;
+
+/// How many slots, bytes of a frame and lines of a tree a report may have, and whether the tree may have Splits.
 #[derive(Clone, Copy)]
 pub struct Limits {
     pub slots: u32,
     pub frame: u32,
     pub lines: u32,
+    pub splits: bool,
 }
 
 /// The limits of a version.
@@ -31,12 +34,14 @@ pub(crate) fn limits_of(version: u8) -> Limits
             slots: OLD_SLOTS,
             frame: OLD_FRAME,
             lines: OLD_LINES,
+            splits: false,
         }
     } else {
         Limits {
             slots: SLOTS,
             frame: FRAME,
-            lines: MOST_NODES,
+            lines: LINES,
+            splits: true,
         }
     }
 }

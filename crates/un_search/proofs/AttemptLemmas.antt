@@ -15,11 +15,12 @@ use Rattle.un_bound.specs.Relaxations.{IsLeast}
 use Rattle.un_post.specs.Posts.{fix_at, largest_horizon}
 use Rattle.un_tree.specs.Boxes.{IsBox, Splits, half}
 use Rattle.un_tree.specs.Searched.{HasTwo, IsSearched, IsTree, IsRefutation, IsStopped}
-use Rattle.un_tree.specs.Waits.{Waiting, Whole, IsStrict, visits, visits_of}
+use Rattle.un_tree.specs.Waits.{Waiting, Whole, Begins, Inside, HasSides, visits}
 use Rattle.un_tree.specs.declared.node.Node.{Node}
-use Rattle.un_tree.specs.declared.node.Node.TheVariants.{Branch, Closed, Open}
+use Rattle.un_tree.specs.declared.node.Node.TheVariants.{Branch, Closed, Open, Split, Part}
 use Rattle.un_branching.proofs.BoxLemmas.{half_box}
 use Rattle.un_certificate.specs.Certificates.{IsAlive, IsCertificate, IsEmptyUnder}
+use Rattle.un_certificate.specs.Joints.{blocks_of, visits_in}
 use Rattle.un_model.specs.Boxes.{IsBelow, root_of}
 use Rattle.un_domains.specs.Sets.{IsSingle}
 use Rattle.un_model.specs.Boxes.{IsCheaper}
@@ -45,10 +46,12 @@ use Rattle.un_branching.specs.declared.problem.Look.TheVariants.{Failed}
 use Rattle.un_certificate.specs.Posted.{ArePosted}
 use Rattle.un_search.specs.Stores.{AreStores}
 
--- the boxes that wait are within the first one
+-- the boxes that wait are within the first one, outside of parts
 abbrev AllBoxes : Sets → List Waiting → Type 0
 AllBoxes root [] = ⊤
 AllBoxes root (Whole b ∷ ws) = IsBox root b × AllBoxes root ws
+AllBoxes root (Begins k b ∷ ws) = ⊥
+AllBoxes root (Inside k number b ∷ ws) = ⊥
 
 pub some_lost : (P : Sets → Type 0) (c : Option Sets) → MatchOption c ⊥ P → c ≡ None → ⊥
 some_lost P None h e = h
@@ -60,10 +63,14 @@ half_inside root b v x side i s =
 
 module _ (m : Model) (limit : Option ℕ) (empty : (b : Sets) → IsBox (root_of m) b → IsEmptyUnder m limit b → fix_at m limit b ≡ None) where
   -- where the rounds do not fail the relaxation has a member
-  all_alive : (i : ℕ) (ns : List Node) (ws : List Waiting) → AllBoxes (root_of m) ws → AllByRecursion IsStrict (visits i ns ws)
-      → AllByRecursion (IsSearched (fix_at m limit)) (visits i ns ws) → AllByRecursion (IsAlive m limit) (visits i ns ws)
+  all_alive : (i : ℕ) (ns : List Node) (ws : List Waiting) → AllBoxes (root_of m) ws
+      → AllByRecursion HasSides (visits (blocks_of m) i ns ws)
+      → AllByRecursion (IsSearched (fix_at m limit)) (visits (blocks_of m) i ns ws)
+      → AllByRecursion (IsAlive m limit) (visits (blocks_of m) i ns ws)
   all_alive i [] ws boxes strict searched = tt
   all_alive i (n ∷ ns) [] boxes strict searched = tt
+  all_alive i (n ∷ ns) (Begins k b ∷ ws) boxes strict searched = absurd boxes
+  all_alive i (n ∷ ns) (Inside k number b ∷ ws) boxes strict searched = absurd boxes
   all_alive i (Branch v x ∷ ns) (Whole b ∷ ws) boxes strict searched = (
     λ none. some_lost (λ f. Splits f v x) (fix_at m limit b) searched.0 (empty b boxes.0 none),
     all_alive (i + 1) ns (Whole (half b v x AtMost) ∷ Whole (half b v x Above) ∷ ws)
@@ -76,23 +83,25 @@ module _ (m : Model) (limit : Option ℕ) (empty : (b : Sets) → IsBox (root_of
     λ none. some_lost HasTwo (fix_at m limit b) searched.0 (empty b boxes.0 none),
     all_alive (i + 1) ns ws boxes.1 strict.1 searched.1,
   )
+  all_alive i (Split ∷ ns) (Whole b ∷ ws) boxes strict searched = absurd searched.0
+  all_alive i (Part number ∷ ns) (Whole b ∷ ws) boxes strict searched = absurd searched.0
 
-  certified : (t : List Node) → NoneEmpty (root_of m) → IsTree (root_of m) (fix_at m limit) (IsLeast m) (IsBelow m limit) t
-      → IsCertificate m limit t
+  certified : (t : List Node) → NoneEmpty (root_of m)
+      → IsTree (blocks_of m) (root_of m) (fix_at m limit) (IsLeast m) (IsBelow m limit) t → IsCertificate m limit t
   certified t full h = record {
     tree = h;
-    alive = All-from_recursion (IsAlive m limit) (visits_of (root_of m) t)
+    alive = All-from_recursion (IsAlive m limit) (visits_in m t)
         (all_alive 0 t (Whole (root_of m) ∷ []) ((Below-refl (root_of m), full), tt)
-        (recursion_from_All IsStrict (visits_of (root_of m) t) h.strict)
-        (recursion_from_All (IsSearched (fix_at m limit)) (visits_of (root_of m) t) h.searched));
+        (recursion_from_All HasSides (visits_in m t) h.strict)
+        (recursion_from_All (IsSearched (fix_at m limit)) (visits_in m t) h.searched));
   }
 
   pub refuted_by : (n : ℕ) (t : List Node) → NoneEmpty (root_of m)
-      → IsRefutation (root_of m) (fix_at m limit) (IsLeast m) (IsBelow m limit) n t → IsRefuted m limit n t
+      → IsRefutation (blocks_of m) (root_of m) (fix_at m limit) (IsLeast m) (IsBelow m limit) n t → IsRefuted m limit n t
   refuted_by n t full h = record { certificate = certified t full h.tree; closed = h.closed; few = h.few }
 
   pub cut_off_by : (n : ℕ) (t : List Node) (low : ℕ) → NoneEmpty (root_of m)
-      → IsStopped (root_of m) (fix_at m limit) (IsLeast m) (IsBelow m limit) n t low → IsCutOff m limit n t low
+      → IsStopped (blocks_of m) (root_of m) (fix_at m limit) (IsLeast m) (IsBelow m limit) n t low → IsCutOff m limit n t low
   cut_off_by n t low full h =
       record { certificate = certified t full h.tree; some = h.some; many = h.many; lowest = h.lowest }
 
@@ -101,14 +110,14 @@ pub closed_root : (m : Model) (limit : Option ℕ) (ps : List AnyProp) (n : ℕ)
     → fix_at m limit (root_of m) ≡ None → t ≡ Closed ∷ [] → 0 < n → IsRefuted m limit n t
 closed_root m limit ps n t h full lost is some =
     refuted_by m limit (posted_empty m limit ps h) n t full
-    (fails (root_of m) (fix_at m limit) (IsLeast m) (IsBelow m limit) t n Failed (posted_keeps m limit ps h) full refl lost is some)
+    (fails (root_of m) (fix_at m limit) (IsLeast m) (blocks_of m) (IsBelow m limit) t n Failed (posted_keeps m limit ps h) full refl lost is some)
 
 module _ (m : Model) (limit : Option ℕ) (ps : List AnyProp) (h : ArePosted m limit ps) (full : NoneEmpty (root_of m)) (n : ℕ) where
   empties : (b : Sets) → IsBox (root_of m) b → IsEmptyUnder m limit b → fix_at m limit b ≡ None
   empties = posted_empty m limit ps h
 
   -- what the search says of its answer
-  pub answers : (a : Answer) (r : Tried) → IsAnswerOf a r → IsTried (root_of m) (fix_at m limit) (IsLeast m) (IsBelow m limit) n a
+  pub answers : (a : Answer) (r : Tried) → IsAnswerOf a r → IsTried (blocks_of m) (root_of m) (fix_at m limit) (IsLeast m) (IsBelow m limit) n a
       → OnFound (IsCheaper m limit) r × OnRefuted (IsRefuted m limit n) r × OnCut (IsCutOff m limit n) r
   answers (Good x) (Found s) is k = (subst (λ (xs : List ℕ). IsBelow m limit xs) (sym is) k, tt, tt)
   answers (Good x) (Refuted u) is k = absurd is

@@ -19,7 +19,7 @@ use Rattle.un_walk.proofs.StandLemmas.{box_here}
 use Rattle.un_walk.specs.Stands.{IsStandAt, ways}
 use Rattle.un_branching.proofs.BoxLemmas.{some_of, splits_box}
 use Rattle.un_certificate.specs.ModelLaws.{posted_inside}
-use Rattle.un_certificate.specs.Posted.{IsPosted}
+use Rattle.un_certificate.specs.Posted.{ArePosted}
 use Rattle.un_stand.specs.Rooms.{IsAt, IsEndBy, IsEngineAt, Leveled, path_of}
 use Rattle.un_stand.specs.declared.room.Room.{Room}
 use Rattle.un_stand.specs.declared.rules.Rules.{Rules}
@@ -38,11 +38,12 @@ module _ (m : Model) (limit : Option ℕ) (r : Room) (h : IsAt m limit r) (P : S
 
   -- there is an engine
   pub some_engine : r.engine ≡ None → ⊥
-  some_engine none = some_lost P here alive (lost_none m limit (path_of r) r.engine h.rounds none)
+  some_engine none = some_lost P here alive (lost_none (root_of m) (fix_at m limit) h.props (path_of r) r.engine h.room.ends none)
 
   module _ (e : State AnyProp) (is : r.engine ≡ Some e) where
     end : here ≡ Some e.store.sets
-    end = rests_some m limit (path_of r) r.engine h.rounds e is (none_dead m limit (path_of r) r.engine h.rounds (some_lost P here alive))
+    end = rests_some (root_of m) (fix_at m limit) h.props (path_of r) r.engine h.room.ends e is
+        (none_dead (root_of m) (fix_at m limit) h.props (path_of r) r.engine h.room.ends (some_lost P here alive))
 
     -- with what they leave
     pub of_end : P e.store.sets
@@ -51,26 +52,32 @@ module _ (m : Model) (limit : Option ℕ) (r : Room) (h : IsAt m limit r) (P : S
     pub to_end : (Q : Sets → Type 0) → Q e.store.sets → MatchOption (fix_at m limit (reached (root_of m) (path_of r))) ⊥ Q
     to_end Q q = subst (λ (c : Option Sets). MatchOption c ⊥ Q) (sym end) q
 
-    pub end_live : IsPosted m limit → NoneEmpty e.store.sets
-    end_live p = (posted_inside m limit p.props p.are (reached (root_of m) (path_of r)) e.store.sets
-        (box_here (root_of m) r.stand h.stand) end).1
+    pub end_live : NoneEmpty e.store.sets
+    end_live = (posted_inside m limit h.props h.posted (reached (root_of m) (path_of r)) e.store.sets
+        (box_here (root_of m) r.stand h.room.stand) end).1
 
 -- the same engine
 pub same_engine : (m : Model) (limit : Option ℕ) (r : Room) (e f : State AnyProp) → IsAt m limit r → r.engine ≡ Some e → f ≡ e
     → IsAt m limit (record { stand = r.stand; engine = Some f })
 same_engine m limit r e f h is same = record {
-  stand = h.stand;
-  rounds = subst (IsEndBy m limit (path_of r)) (is ∙ ap (λ (k : State AnyProp). Some k) (sym same)) h.rounds;
+  props = h.props;
+  posted = h.posted;
+  room = record {
+    rounds = h.room.rounds;
+    stand = h.room.stand;
+    ends = subst (IsEndBy (root_of m) (fix_at m limit) h.props (path_of r)) (is ∙ ap (λ (k : State AnyProp). Some k) (sym same))
+        h.room.ends;
+  };
 }
 
 -- what splits what the rounds leave splits the box
-pub splits_here : (m : Model) (limit : Option ℕ) (r : Room) → IsAt m limit r → IsPosted m limit → (v : VarId) (x : ℕ)
+pub splits_here : (m : Model) (limit : Option ℕ) (r : Room) → IsAt m limit r → (v : VarId) (x : ℕ)
     → MatchOption (fix_at m limit (reached (root_of m) (path_of r))) ⊥ (λ f. Splits f v x)
     → Splits (reached (root_of m) (path_of r)) v x
-splits_here m limit r h p v x alive =
+splits_here m limit r h v x alive =
     let b = reached (root_of m) (path_of r) in
     let f = some_of (fix_at m limit b) alive in
-    let le = posted_inside m limit p.props p.are b f.0 (box_here (root_of m) r.stand h.stand) f.1 in
+    let le = posted_inside m limit h.props h.posted b f.0 (box_here (root_of m) r.stand h.room.stand) f.1 in
     splits_box b f.0 v x le.0 le.1 f.2
 
 -- down and up again
@@ -90,9 +97,9 @@ module _ (r : Rules) (s : ModelStores) (h : AreAtRoot r.m.now r.limit s) where
   abbrev root : Sets
   root = root_of r.m.now
 
-  engine_first : IsEngineAt r.m.now r.limit [] s.engine
+  engine_first : IsEngineAt root (fix_at r.m.now r.limit) s.engine.props [] s.engine
   engine_first = record {
-    posted = h.stores.posted;
+    props = refl;
     long = h.stores.ends_long;
     at = subst (λ (ms : List Sets). Leveled root (fix_at r.m.now r.limit) root [] ms s.engine.store.sets) (sym h.fresh)
         ((Below-refl root, h.full), h.ends);
@@ -110,14 +117,19 @@ module _ (r : Rules) (s : ModelStores) (h : AreAtRoot r.m.now r.limit s) where
       postable = record { props = s.engine.props; are = h.stores.posted };
     };
     at = record {
-      stand = subst (λ (b : Sets). IsStandAt b p.room.stand) h.cuts stand;
-      rounds = subst (IsEndBy r.m.now r.limit (path_of p.room)) (sym engine) (record {
-        live = [];
-        dead = [];
-        path = path;
-        end = engine_first;
-        lost = tt;
-      });
+      props = s.engine.props;
+      posted = h.stores.posted;
+      room = record {
+        rounds = h.stores.posted.rounds;
+        stand = subst (λ (b : Sets). IsStandAt b p.room.stand) h.cuts stand;
+        ends = subst (IsEndBy root (fix_at r.m.now r.limit) s.engine.props (path_of p.room)) (sym engine) (record {
+          live = [];
+          dead = [];
+          path = path;
+          end = engine_first;
+          lost = tt;
+        });
+      };
     };
     scratch = subst (HasRoom (length root) (largest_horizon r.m.now.ext.blocks + 1)) (sym scratch) h.stores.room;
   }
@@ -130,11 +142,12 @@ module _ (r : Rules) (s : ModelStores) (h : AreAtRoot r.m.now r.limit s) where
       → HasRoom (length root) (largest_horizon r.m.now.ext.blocks + 1) scratch → path_of room ≡ [] → room.engine ≡ Some t.engine
       → t.cuts ≡ room.stand.cuts → t.scratch ≡ scratch → AreAtRoot r.m.now r.limit t
   back_at_root t room scratch at has path engine cuts same =
-      let e : IsEngineAt r.m.now r.limit [] t.engine = subst (λ (ds : List Decision). IsEngineAt r.m.now r.limit ds t.engine) path
-      (engine_here r.m.now r.limit (path_of room) room.engine at.rounds t.engine engine
+      let e : IsEngineAt root (fix_at r.m.now r.limit) at.props [] t.engine =
+      subst (λ (ds : List Decision). IsEngineAt root (fix_at r.m.now r.limit) at.props ds t.engine) path
+      (engine_here root (fix_at r.m.now r.limit) at.props (path_of room) room.engine at.room.ends t.engine engine
       (subst (λ (ds : List Decision). fix_at r.m.now r.limit (reached root ds) ≢ None) (sym path) root_rests)) in
       let end = leveled_none root (fix_at r.m.now r.limit) t.engine.store.marked t.engine.store.sets e.at in
-      let stand : IsStandAt root room.stand = at.stand in
+      let stand : IsStandAt root room.stand = at.room.stand in
       let box : t.cuts.sets ≡ root = ap (λ (k : Contents). k.sets) cuts ∙ (stand.sets ∙ ap (reached root) path) in
       record {
         postable = h.postable;
@@ -142,7 +155,7 @@ module _ (r : Rules) (s : ModelStores) (h : AreAtRoot r.m.now r.limit s) where
           model = h.stores.model;
           extended = h.stores.extended;
           table = h.stores.table;
-          posted = e.posted;
+          posted = subst (ArePosted r.m.now r.limit) (sym e.props) at.posted;
           ends_long = e.long;
           cuts_long = ap length box;
           room = subst (HasRoom (length root) (largest_horizon r.m.now.ext.blocks + 1)) (sym same) has;

@@ -30,7 +30,7 @@ use Rattle.un_search.specs.declared.rounds.ModelStores.{ModelStores}
 module _ (m : Model) (limit : Option ℕ) where
   -- each propagator reads what is there
   pub root_reads : (s : ModelStores) → AreAtRoot m limit s → All (ReadsFrom s.engine.store.sets) s.engine.props
-  root_reads s h i d lt k x below = rw h.stores.ends_long (h.stores.posted.reads i d lt k x below)
+  root_reads s h i d lt k x below = rw h.stores.ends_long (h.stores.posted.rounds.reads i d lt k x below)
 
   -- no set is empty there
   pub root_live : (s : ModelStores) → AreAtRoot m limit s → NoneEmpty s.engine.store.sets
@@ -96,8 +96,8 @@ module _ (m : Model) (r : Root) (h : IsRoot m r) (limit : ℕ) (l : Lowered) (lo
       → fix_of cut_of ps box ≡ Some r.stores.engine.store.sets → IsFix (fix_of cut_of (with_lower ps r.limit_at l) box) e.store.sets fix) where
     run : IsFix (fix_at m (Some limit) (root_of m)) e.store.sets fix
     run = subst (λ (c : Option Sets). IsFix c e.store.sets fix)
-        (ap (λ (k : ℕ). fix_of cut_of (with_lower ps k l) (root_of m)) h.place ∙ posted.fixed (root_of m))
-        (ends (root_of m) h.at.full (sym h.at.stores.ends_long) (h.at.stores.posted.fixed (root_of m) ∙ h.at.ends))
+        (ap (λ (k : ℕ). fix_of cut_of (with_lower ps k l) (root_of m)) h.place ∙ posted.rounds.fixed (root_of m))
+        (ends (root_of m) h.at.full (sym h.at.stores.ends_long) (h.at.stores.posted.rounds.fixed (root_of m) ∙ h.at.ends))
 
     pub low_lost : fix ≡ Fails → IsLost m (Some limit)
     low_lost is = record {

@@ -10,12 +10,13 @@ use Rattle.un_model.specs.Options.{AreOptions}
 use Rattle.un_model.specs.Solutions.{IsSolution}
 use Rattle.un_model.specs.Variables.{IsModel}
 use Rattle.un_bound.proofs.Plains.{plain_below}
-use Rattle.un_tree.specs.Waits.{Waiting, Whole, Visit, after, visits, visits_of}
+use Rattle.un_tree.specs.Waits.{Waiting, Whole, Visit, after, visits}
 use Rattle.un_tree.specs.declared.node.Node.{Node}
 use Rattle.un_tree.specs.declared.node.Node.TheVariants.{Open}
 use Rattle.un_certificate.proofs.Lowest.{bound_one, lowest_none}
 use Rattle.un_certificate.proofs.Lows.{bound_below, refuted, standing}
 use Rattle.un_certificate.specs.Bounds.{IsBound}
+use Rattle.un_certificate.specs.Joints.{blocks_of, visits_in}
 use Rattle.un_model.specs.Boxes.{root_of}
 use Rattle.un_search.specs.Answers.{IsLeftOfRoot, IsRefuted, IsCutOff}
 use Rattle.un_search.specs.Solved.{IsBest, IsByRounds, IsCode, IsEnded, OnCode, OnInfeasible}
@@ -41,38 +42,38 @@ cut_ended m limit n t low h = record { certificate = h.certificate; few = h.many
 
 -- ---- the least of the limit and of the open leaves
 
-closed_at : (i : ℕ) (ns : List Node) (ws : List Waiting) → AllByRecursion (λ (n : Node). n ≡ Open → ⊥) ns
-    → AllByRecursion (λ (p : Visit). p.node ≡ Open → ⊥) (visits i ns ws)
-closed_at i [] ws closed = tt
-closed_at i (n ∷ ns) [] closed = tt
-closed_at i (n ∷ ns) (w ∷ ws) closed = (closed.0, closed_at (i + 1) ns (after n w ws) closed.1)
+closed_at : (blocks i : ℕ) (ns : List Node) (ws : List Waiting) → AllByRecursion (λ (n : Node). n ≡ Open → ⊥) ns
+    → AllByRecursion (λ (p : Visit). p.node ≡ Open → ⊥) (visits blocks i ns ws)
+closed_at blocks i [] ws closed = tt
+closed_at blocks i (n ∷ ns) [] closed = tt
+closed_at blocks i (n ∷ ns) (w ∷ ws) closed = (closed.0, closed_at blocks (i + 1) ns (after blocks n w ws) closed.1)
 
 -- no leaf is open where no node is
-pub closed_visits : (m : Model) (t : List Node) → All (λ (n : Node). n ≢ Open) t → All (λ (p : Visit). p.node ≢ Open) (visits_of (root_of m) t)
-closed_visits m t closed = All-from_recursion (λ (p : Visit). p.node ≢ Open) (visits_of (root_of m) t)
-    (closed_at 0 t (Whole (root_of m) ∷ []) (recursion_from_All (λ (n : Node). n ≡ Open → ⊥) t closed))
+pub closed_visits : (m : Model) (t : List Node) → All (λ (n : Node). n ≢ Open) t → All (λ (p : Visit). p.node ≢ Open) (visits_in m t)
+closed_visits m t closed = All-from_recursion (λ (p : Visit). p.node ≢ Open) (visits_in m t)
+    (closed_at (blocks_of m) 0 t (Whole (root_of m) ∷ []) (recursion_from_All (λ (n : Node). n ≡ Open → ⊥) t closed))
 
 -- ---- the best solution with a bound
 
 module _ (m : Model) (own : IsModel m) (extended : IsExtended m.ext) (fit : IsFit m.ext.table) (options : AreOptions m.options) (n : ℕ) where
   -- a bound is the cost where no leaf is open
-  bound_equal : (b : Best) (t : List Node) (bound : ℕ) → IsBest m n b → IsBound m b.cost (visits_of (root_of m) t) bound
+  bound_equal : (b : Best) (t : List Node) (bound : ℕ) → IsBest m n b → IsBound m b.cost (visits_in m t) bound
       → All (λ (k : Node). k ≢ Open) t → bound ≡ b.cost
   bound_equal b t bound best shown closed =
       let le = plain_below m b.solution shown.plain own extended fit options best.solution shown.is_plain in
       let e = best.cost in
-      let top : IsBound m b.cost (visits_of (root_of m) t) (max shown.plain b.cost) = record {
+      let top : IsBound m b.cost (visits_in m t) (max shown.plain b.cost) = record {
         plain = shown.plain;
         low = b.cost;
         is_plain = shown.is_plain;
-        is_lowest = lowest_none m b.cost (visits_of (root_of m) t) (closed_visits m t closed);
+        is_lowest = lowest_none m b.cost (visits_in m t) (closed_visits m t closed);
         greatest = refl;
       } in
-      let one = bound_one m b.cost (visits_of (root_of m) t) bound (max shown.plain b.cost) shown top in
+      let one = bound_one m b.cost (visits_in m t) bound (max shown.plain b.cost) shown top in
       omega (arith, le, e, one)
 
   pub best_code : (b : Best) (t : List Node) (bound : ℕ) → IsBest m n b → IsEnded m (Some b.cost) n t
-      → IsBound m b.cost (visits_of (root_of m) t) bound → IsCode m n b.solution b.cost bound t
+      → IsBound m b.cost (visits_in m t) bound → IsCode m n b.solution b.cost bound t
   best_code b t bound best ended shown = record {
     solution = best.solution;
     priced = best.cost;
@@ -92,8 +93,10 @@ on_infeasible P Q so (Infeasible t) h = so t.nodes.items h
 on_infeasible P Q so (Spent t) h = tt
 
 -- there is no solution where the tree without a limit has no open leaf
-pub none_left : (m : Model) (n : ℕ) (t : List Node) → IsModel m → IsRefuted m None n t → (x : Solution) → IsSolution m x → ⊥
-none_left m n t own h x is = refuted m None t own (standing m None t h.certificate) h.closed x.values (is, tt)
+pub none_left : (m : Model) (n : ℕ) (t : List Node) → IsModel m → IsExtended m.ext → IsFit m.ext.table → AreOptions m.options
+    → IsRefuted m None n t → (x : Solution) → IsSolution m x → ⊥
+none_left m n t own extended fit options h x is =
+    refuted m None t own extended fit options (standing m None t h.certificate) h.closed x.values (is, tt)
 
 -- what follows of the solution of code
 pub on_code : (P Q : Solution → Type 0) → ((s : Solution) → P s → Q s) → (a : Answer) → OnCode (λ s cost bound t. P s) a

@@ -9,8 +9,9 @@ use Rattle.un_tree.specs.Boxes.{volume}
 use Rattle.un_tree.specs.declared.node.Node.{Node}
 use Rattle.un_tree.specs.declared.node.Node.TheVariants.{Open}
 use Rattle.un_tree.specs.Searched.{IsLowest, IsOpenBox}
-use Rattle.un_tree.specs.Waits.{IsOdd, visits_of}
+use Rattle.un_tree.specs.Waits.{IsOdd}
 use Rattle.un_certificate.specs.Certificates.{IsCertificate}
+use Rattle.un_certificate.specs.Joints.{visits_in}
 use Rattle.un_model.specs.Boxes.{root_of}
 use Rattle.un_branching.specs.declared.attempt.Tried.{Tried as Answer}
 use Rattle.un_branching.specs.declared.attempt.Tried.TheVariants.{Found as Good, Refuted as Gone, Cut as Short}
@@ -44,7 +45,7 @@ pub record IsCutOff (m : Model) (limit : Option ℕ) (n : ℕ) (t : List Node) (
   pub certificate : IsCertificate m limit t
   pub some : Contains t Open
   pub many : IsOdd (length t) n
-  pub lowest : IsLowest (IsLeast m) (visits_of (root_of m) t) low
+  pub lowest : IsLowest (IsLeast m) (visits_in m t) low
 
 -- more than twice as many nodes as the first box has assignments
 abbrev pub AreEnough : Model → ℕ → Type 0

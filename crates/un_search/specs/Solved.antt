@@ -7,10 +7,10 @@ use Rattle.un_model.specs.Solutions.{IsSolution}
 use Rattle.un_merges.specs.Merges.{HasNoMerge}
 use Rattle.un_tree.specs.declared.node.Node.{Node}
 use Rattle.un_tree.specs.declared.node.Node.TheVariants.{Open}
-use Rattle.un_tree.specs.Waits.{IsOdd, visits_of}
+use Rattle.un_tree.specs.Waits.{IsOdd}
 use Rattle.un_certificate.specs.Bounds.{IsBound}
 use Rattle.un_certificate.specs.Certificates.{IsCertificate}
-use Rattle.un_model.specs.Boxes.{root_of}
+use Rattle.un_certificate.specs.Joints.{visits_in}
 use Rattle.un_search.specs.Answers.{IsLeftOfRoot}
 use Rattle.un_search.specs.declared.best.Best.{Best}
 use Rattle.un_search.specs.declared.root.Incumbent.{Incumbent}
@@ -38,7 +38,7 @@ pub record IsCode (m : Model) (n : ℕ) (s : Solution) (cost bound : ℕ) (t : L
   pub priced : cost ≡ cost_of m s
   pub tight : 3 ≤ n → HasNoMerge m s
   pub tree : IsEnded m (Some cost) n t
-  pub shown : IsBound m cost (visits_of (root_of m) t) bound
+  pub shown : IsBound m cost (visits_in m t) bound
   pub least : (x : Solution) → IsSolution m x → bound ≤ cost_of m x
   pub equal : All (λ k. k ≢ Open) t → bound ≡ cost
 

@@ -76,7 +76,7 @@ fn search(
     };
     let mut place = first_place(alloc, stores);
     let tried = attempt_by(alloc, &rounds, &mut place, nodes)?;
-    to_first(&rounds.rules, &mut place.room);
+    to_first(&mut place.room);
     Ok(Attempted {
         tried: answer_of(tried),
         stores: stores_of(&rounds.rules, place),

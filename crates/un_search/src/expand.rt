@@ -101,7 +101,7 @@ fn enter(
     ensures look { IfOk result (IsLook (fix_at rules.now.m.now rules.now.limit) (IsLeast rules.now.m.now)
         (IsBelow rules.now.m.now rules.now.limit) (decided decision (reached (root_of rules.now.m.now) (path_of place.old.room)))) }
 {
-    go_down(rules, &mut place.room, decision)?;
+    go_down(&mut place.room, decision)?;
     let look = look(alloc, rules, place)?;
     Ok(look)
 }
@@ -121,7 +121,7 @@ fn peek(
         (IsBelow rules.now.m.now rules.now.limit) (decided decision (reached (root_of rules.now.m.now) (path_of place.old.room)))) }
 {
     let look = enter(alloc, rules, place, decision)?;
-    go_up(rules, &mut place.room);
+    go_up(&mut place.room);
     Ok(look)
 }
 
@@ -140,7 +140,7 @@ fn expand(
     ensures expansion { IfOk result (IsExpansion (fix_at rules.now.m.now rules.now.limit) (IsLeast rules.now.m.now)
         (IsBelow rules.now.m.now rules.now.limit) (reached (root_of rules.now.m.now) path.now)) }
 {
-    go_to(rules, &mut place.room, path)?;
+    go_to(&mut place.room, path)?;
     let choice = choose(rules, place)?;
     let above = Decision {
         var: choice.var,
@@ -177,6 +177,7 @@ fn first(alloc: Global, rules: &Rules, place: &mut Place) -> Result<Look, NoMemo
 impl Problem for ModelRounds<'_> {
     ghost use Rattle.std.specs.Prelude.{◌≡◌, []};
     ghost use Rattle.un_bound.specs.Relaxations.{IsLeast};
+    ghost use Rattle.un_certificate.specs.Joints.{blocks_of};
     ghost use Rattle.un_certificate.specs.ModelLaws.{model_inside, model_keeps, model_rises};
     ghost use Rattle.un_model.specs.Boxes.{IsBelow, root_of};
     ghost use Rattle.un_post.specs.Posts.{fix_at};
@@ -184,6 +185,8 @@ impl Problem for ModelRounds<'_> {
     ghost use Rattle.un_search.specs.Stores.{IsPlace};
 
     type Room = Place;
+
+    ghost block_count = { λ r. blocks_of r.rules.m.now };
 
     ghost root = { λ r. root_of r.rules.m.now };
 

@@ -10,10 +10,9 @@ ghost use Rattle.un_model.specs.Variables.{IsModel};
 ghost use Rattle.un_model.specs.declared.model.Solution.{Solution};
 ghost use Rattle.un_bound.specs.Arcs.{IsShort};
 ghost use Rattle.un_certificate.specs.Bounds.{IsBound, IsLeastOpen};
-ghost use Rattle.un_model.specs.Boxes.{root_of};
+ghost use Rattle.un_certificate.specs.Joints.{visits_in};
 ghost use Rattle.un_post.specs.Postable.{IsPostable};
 ghost use Rattle.un_merges.specs.Merges.{HasNoMerge};
-ghost use Rattle.un_tree.specs.Waits.{visits_of};
 ghost use Rattle.un_tree.specs.declared.node.Node.TheVariants.{Open};
 ghost use Rattle.un_search.specs.Answers.{AreEnough, IsLeftOfRoot, IsRefuted};
 ghost use Rattle.un_search.specs.Roots.{IsIncumbent};
@@ -68,7 +67,7 @@ fn with_bound(m: &Model, best: Best, tree: Tree, least: Option<u64>, nodes: u32)
     requires short { All IsShort m.now.ext.blocks }
     requires best { IsBest m.now nodes best }
     requires ended { IsEnded m.now (Some best.cost) nodes tree.nodes.items }
-    requires lowest { IsLeastOpen m.now (visits_of (root_of m.now) tree.nodes.items) least }
+    requires lowest { IsLeastOpen m.now (visits_in m.now tree.nodes.items) least }
     ensures last { IsLast m.now nodes result }
     ensures same { result.best ≡ best }
 {
@@ -201,7 +200,7 @@ pub fn solve(
 
     // The tree, and the bound that it shows.
     ensures tree { IfOk result (OnCode (λ s cost bound t. IsEnded m.now (Some cost) nodes t)) }
-    ensures bound { IfOk result (OnCode (λ s cost bound t. IsBound m.now cost (visits_of (root_of m.now) t) bound)) }
+    ensures bound { IfOk result (OnCode (λ s cost bound t. IsBound m.now cost (visits_in m.now t) bound)) }
     ensures least { IfOk result (OnCode (λ s cost bound t. (x : Solution) → IsSolution m.now x → bound ≤ cost_of m.now x)) }
     ensures equal { IfOk result (OnCode (λ s cost bound t. All (λ n. n ≢ Open) t → bound ≡ cost)) }
 

@@ -44,3 +44,9 @@ pub split_next : (b : Sets) (ds ps : List Decision) (n : ℕ) (d : Decision) →
     → Splits (reached b ps) (get_or ds n d).var (get_or ds n d).val
 split_next b ds ps n d all lt is =
     subst (λ (es : List Decision). Splits (reached b es) (get_or ds n d).var (get_or ds n d).val) (sym is) (split_here b ds n d all lt)
+
+-- where a store has the box of those before it
+pub split_at : (s b : Sets) (ds ps : List Decision) (n : ℕ) (d : Decision) → s ≡ reached b ps → AllSplit b ds → n < length ds → ps ≡ take n ds
+    → Splits s (get_or ds n d).var (get_or ds n d).val
+split_at s b ds ps n d same all lt is =
+    subst (λ (c : Sets). Splits c (get_or ds n d).var (get_or ds n d).val) (sym same) (split_next b ds ps n d all lt is)

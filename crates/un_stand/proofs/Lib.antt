@@ -1,3 +1,4 @@
 pub mod JumpLemmas
 pub mod LevelLemmas
+pub mod ModelRooms
 pub mod RoomLemmas

@@ -11,19 +11,16 @@ use Rattle.un_engine.specs.Engines.{State}
 use Rattle.un_engine.proofs.EngineLaws.{stable_is, failed_is}
 use Rattle.un_kinds.specs.AnyProps.{cut_of}
 use Rattle.un_kinds.specs.declared.any.AnyProp.{AnyProp}
-use Rattle.un_model.specs.declared.model.Model.{Model}
-use Rattle.un_post.specs.Posts.{fix_at}
 use Rattle.un_prop.specs.Pruning.{IsFix}
 use Rattle.un_prop.specs.declared.run.Fix.TheVariants.{Stable as Rests, Failed as Lost}
 use Rattle.un_prop.specs.Rounds.{fix_of}
 use Rattle.un_domains.specs.Sides.{side_test}
 use Rattle.un_tree.specs.Boxes.{IsBox, Splits, decided, reached}
 use Rattle.un_tree.specs.declared.node.Decision.{Decision}
-use Rattle.un_model.specs.Boxes.{root_of}
-use Rattle.un_certificate.specs.ModelLaws.{posted_parts, posted_inside}
-use Rattle.un_certificate.specs.Posted.{ArePosted, IsPosted}
+use Rattle.un_certificate.specs.ModelLaws.{rounds_parts, rounds_inside}
+use Rattle.un_certificate.specs.Posted.{AreRounds}
 use Rattle.un_stand.specs.Engines.{IsDecided, IsLeft, IsSame, IsUndone, side_end}
-use Rattle.un_stand.specs.Rooms.{AllLost, IsAt, IsEndAt, IsEndBy, IsEngineAt, Leveled, path_of}
+use Rattle.un_stand.specs.Rooms.{AllLost, Goes, IsEndAt, IsEndBy, IsEngineAt, IsRoom, IsRoomAt, IsRoomOn, Leveled, path_of}
 use Rattle.un_stand.proofs.LevelLemmas.{reached-append, leveled_end, leveled_push, leveled_pop, leveled_long}
 use Rattle.un_walk.specs.Stands.{IsStandAt}
 use Rattle.un_stand.specs.declared.room.Room.{Room}
@@ -64,57 +61,57 @@ live_end fix root live dead ms s h none =
     ap (λ (ds : List Decision). fix (reached root (live ++ ds))) none
     ∙ (ap fix (reached-append root live []) ∙ (leveled_end root fix root live ms s h).1)
 
-module _ (m : Model) (limit : Option ℕ) (ds : List Decision) (o : Option (State AnyProp)) (h : IsEndBy m limit ds o) where
-  pub lost_dead : h.dead ≢ [] → fix_at m limit (reached (root_of m) ds) ≡ None
-  lost_dead some = ap (λ (xs : List Decision). fix_at m limit (reached (root_of m) xs)) h.path
-      ∙ at_dead (fix_at m limit) (root_of m) h.live h.dead h.lost some
+module _ (root : Sets) (fix : Sets → Option Sets) (ps : List AnyProp) (ds : List Decision) (o : Option (State AnyProp)) (h : IsEndBy root fix ps ds o) where
+  pub lost_dead : h.dead ≢ [] → fix (reached root ds) ≡ None
+  lost_dead some = ap (λ (xs : List Decision). fix (reached root xs)) h.path
+      ∙ at_dead fix root h.live h.dead h.lost some
 
-  pub lost_none : o ≡ None → fix_at m limit (reached (root_of m) ds) ≡ None
-  lost_none is = let e = subst (IsEndAt m limit h.live) is h.end in
-      ap (λ (xs : List Decision). fix_at m limit (reached (root_of m) xs)) h.path
-      ∙ dead_or_none (fix_at m limit) (root_of m) h.live h.dead e.0 e.1 h.lost
+  pub lost_none : o ≡ None → fix (reached root ds) ≡ None
+  lost_none is = let e = subst (IsEndAt root fix ps h.live) is h.end in
+      ap (λ (xs : List Decision). fix (reached root xs)) h.path
+      ∙ dead_or_none fix root h.live h.dead e.0 e.1 h.lost
 
-  pub rests_some : (e : State AnyProp) → o ≡ Some e → h.dead ≡ [] → fix_at m limit (reached (root_of m) ds) ≡ Some e.store.sets
-  rests_some e is none = let at = subst (IsEndAt m limit h.live) is h.end in
-      ap (λ (xs : List Decision). fix_at m limit (reached (root_of m) xs)) h.path
-      ∙ live_end (fix_at m limit) (root_of m) h.live h.dead e.store.marked e.store.sets at.at none
+  pub rests_some : (e : State AnyProp) → o ≡ Some e → h.dead ≡ [] → fix (reached root ds) ≡ Some e.store.sets
+  rests_some e is none = let at = subst (IsEndAt root fix ps h.live) is h.end in
+      ap (λ (xs : List Decision). fix (reached root xs)) h.path
+      ∙ live_end fix root h.live h.dead e.store.marked e.store.sets at.at none
 
   -- where the rounds do not fail, they do not on the way
-  pub none_dead : fix_at m limit (reached (root_of m) ds) ≢ None → h.dead ≡ []
+  pub none_dead : fix (reached root ds) ≢ None → h.dead ≡ []
   none_dead rests = by h.dead lost_dead
     where
-      by : (dead : List Decision) → (dead ≢ [] → fix_at m limit (reached (root_of m) ds) ≡ None) → dead ≡ []
+      by : (dead : List Decision) → (dead ≢ [] → fix (reached root ds) ≡ None) → dead ≡ []
       by [] lost = refl
       by (d ∷ dead) lost = absurd (rests (lost (λ is. cc is)))
 
 -- where the rounds do not fail, the engine has a mark for each decision
-pub engine_here : (m : Model) (limit : Option ℕ) (ds : List Decision) (o : Option (State AnyProp)) → IsEndBy m limit ds o
-    → (e : State AnyProp) → o ≡ Some e → fix_at m limit (reached (root_of m) ds) ≢ None → IsEngineAt m limit ds e
-engine_here m limit ds o h e is rests =
-    let whole : ds ≡ h.live = h.path ∙ (ap (λ (xs : List Decision). h.live ++ xs) (none_dead m limit ds o h rests) ∙ append-nil h.live) in
-    subst (λ (xs : List Decision). IsEngineAt m limit xs e) (sym whole) (subst (IsEndAt m limit h.live) is h.end)
+pub engine_here : (root : Sets) (fix : Sets → Option Sets) (ps : List AnyProp) (ds : List Decision) (o : Option (State AnyProp)) → IsEndBy root fix ps ds o
+    → (e : State AnyProp) → o ≡ Some e → fix (reached root ds) ≢ None → IsEngineAt root fix ps ds e
+engine_here root fix ps ds o h e is rests =
+    let whole : ds ≡ h.live = h.path ∙ (ap (λ (xs : List Decision). h.live ++ xs) (none_dead root fix ps ds o h rests) ∙ append-nil h.live) in
+    subst (λ (xs : List Decision). IsEngineAt root fix ps xs e) (sym whole) (subst (IsEndAt root fix ps h.live) is h.end)
 
 -- and is at what they leave
-pub end_here : (m : Model) (limit : Option ℕ) (r : Room) → IsAt m limit r → (e : State AnyProp) → r.engine ≡ Some e
-    → fix_at m limit (reached (root_of m) (path_of r)) ≢ None → fix_at m limit r.stand.cuts.sets ≡ Some e.store.sets
-end_here m limit r h e is rests = ap (fix_at m limit) h.stand.sets
-    ∙ rests_some m limit (path_of r) r.engine h.rounds e is (none_dead m limit (path_of r) r.engine h.rounds rests)
+pub end_here : (root : Sets) (fix : Sets → Option Sets) (ps : List AnyProp) (r : Room) → IsRoomAt root fix ps r → (e : State AnyProp) → r.engine ≡ Some e
+    → fix (reached root (path_of r)) ≢ None → fix r.stand.cuts.sets ≡ Some e.store.sets
+end_here root fix ps r h e is rests = ap fix h.stand.sets
+    ∙ rests_some root fix ps (path_of r) r.engine h.ends e is (none_dead root fix ps (path_of r) r.engine h.ends rests)
 
 -- the marks tell whether the rounds fail
-module _ (m : Model) (limit : Option ℕ) (r : Room) (h : IsAt m limit r) (e : State AnyProp) (is : r.engine ≡ Some e) where
-  marks : length r.stand.cuts.marked ≡ length e.store.marked + length h.rounds.dead
+module _ (root : Sets) (fix : Sets → Option Sets) (ps : List AnyProp) (r : Room) (h : IsRoomAt root fix ps r) (e : State AnyProp) (is : r.engine ≡ Some e) where
+  marks : length r.stand.cuts.marked ≡ length e.store.marked + length h.ends.dead
   marks =
-      let end = subst (IsEndAt m limit h.rounds.live) is h.rounds.end in
-      let own = leveled_long (root_of m) (fix_at m limit) (root_of m) h.rounds.live e.store.marked e.store.sets end.at in
-      omega (arith, marks_long (root_of m) r.stand h.stand, ap length h.rounds.path, length-append h.rounds.live h.rounds.dead, own)
+      let end = subst (IsEndAt root fix ps h.ends.live) is h.ends.end in
+      let own = leveled_long root fix root h.ends.live e.store.marked e.store.sets end.at in
+      omega (arith, marks_long root r.stand h.stand, ap length h.ends.path, length-append h.ends.live h.ends.dead, own)
 
-  pub fewer_marks : length e.store.marked < length r.stand.cuts.marked → fix_at m limit (reached (root_of m) (path_of r)) ≡ None
-  fewer_marks lt = lost_dead m limit (path_of r) r.engine h.rounds (λ none. (omega (arith, lt, marks, ap length none)))
+  pub fewer_marks : length e.store.marked < length r.stand.cuts.marked → fix (reached root (path_of r)) ≡ None
+  fewer_marks lt = lost_dead root fix ps (path_of r) r.engine h.ends (λ none. (omega (arith, lt, marks, ap length none)))
 
-  pub all_marks : length r.stand.cuts.marked ≤ length e.store.marked → fix_at m limit (reached (root_of m) (path_of r)) ≢ None
+  pub all_marks : length r.stand.cuts.marked ≤ length e.store.marked → fix (reached root (path_of r)) ≢ None
   all_marks le none =
-      let no : h.rounds.dead ≡ [] = no_dead h.rounds.dead (omega (arith, le, marks)) in
-      let rests = rests_some m limit (path_of r) r.engine h.rounds e is no in cc (rests, none)
+      let no : h.ends.dead ≡ [] = no_dead h.ends.dead (omega (arith, le, marks)) in
+      let rests = rests_some root fix ps (path_of r) r.engine h.ends e is no in cc (rests, none)
     where
       no_dead : (ds : List Decision) → length ds ≡ 0 → ds ≡ []
       no_dead [] e = refl
@@ -151,109 +148,120 @@ cut_leaves q v b there full =
     ap (λ (c : Bool). cond c None (Some (kept q b v))) some_left
 
 -- what the rounds leave of a side of the box
-side_is : (m : Model) (limit : Option ℕ) (ps : List AnyProp) (d : Decision) (b : Sets) (c : Option Sets) → ArePosted m limit ps
-    → IsBox (root_of m) b → Splits b d.var d.val → side_end ps d b ≡ c → fix_at m limit (decided d b) ≡ c
-side_is m limit ps d b c posted i s e =
-    let full : NoneEmpty (decided d b) = (side_box (root_of m) b d d.side i s).1 in
-    sym (posted.fixed (decided d b))
+side_is : (root : Sets) (fix : Sets → Option Sets) (ps : List AnyProp) (d : Decision) (b : Sets) (c : Option Sets) → AreRounds root fix ps
+    → IsBox root b → Splits b d.var d.val → side_end ps d b ≡ c → fix (decided d b) ≡ c
+side_is root fix ps d b c rounds i s e =
+    let full : NoneEmpty (decided d b) = (side_box root b d d.side i s).1 in
+    sym (rounds.fixed (decided d b))
     ∙ (sym (ap (option_and_then (fix_of cut_of ps)) (cut_leaves (side_test d.side d.val) d.var.0 b s.0 full)) ∙ e)
 
 -- ---- down
 
-module _ (m : Model) (limit : Option ℕ) (ds : List Decision) (o : Option (State AnyProp)) (h : IsEndBy m limit ds o) (d : Decision) where
-  end_lost : fix_at m limit (decided d (reached (root_of m) ds)) ≡ None → IsEndBy m limit (ds ++ d ∷ []) o
+module _ (root : Sets) (fix : Sets → Option Sets) (ps : List AnyProp) (ds : List Decision) (o : Option (State AnyProp)) (h : IsEndBy root fix ps ds o) (d : Decision) where
+  end_lost : fix (decided d (reached root ds)) ≡ None → IsEndBy root fix ps (ds ++ d ∷ []) o
   end_lost none = record {
     live = h.live;
     dead = h.dead ++ d ∷ [];
     path = ap (λ (xs : List Decision). xs ++ d ∷ []) h.path ∙ append_assoc h.live h.dead (d ∷ []);
     end = h.end;
-    lost = lost_snoc (fix_at m limit) (reached (root_of m) h.live) h.dead d h.lost
-        (subst (λ (b : Sets). fix_at m limit (decided d b) ≡ None)
-        (ap (reached (root_of m)) h.path ∙ reached-append (root_of m) h.live h.dead) none);
+    lost = lost_snoc fix (reached root h.live) h.dead d h.lost
+        (subst (λ (b : Sets). fix (decided d b) ≡ None)
+        (ap (reached root) h.path ∙ reached-append root h.live h.dead) none);
   }
 
-module _ (m : Model) (limit : Option ℕ) (post : IsPosted m limit) (r : Room) (h : IsAt m limit r)
-    (d : Decision) (s : Splits (reached (root_of m) (path_of r)) d.var d.val) where
-  box_here : IsBox (root_of m) (reached (root_of m) (path_of r))
-  box_here = stand_box (root_of m) r.stand h.stand
+-- what splits the box of a room splits that of its decisions
+pub split_at : (root : Sets) (fix : Sets → Option Sets) (ps : List AnyProp) (r : Room) → IsRoomAt root fix ps r → (d : Decision)
+    → Splits r.stand.cuts.sets d.var d.val → Splits (reached root (path_of r)) d.var d.val
+split_at root fix ps r h d s = subst (λ (b : Sets). Splits b d.var d.val) h.stand.sets s
+
+module _ (root : Sets) (fix : Sets → Option Sets) (ps : List AnyProp) (r : Room) (h : IsRoomAt root fix ps r)
+    (d : Decision) (s : Splits (reached root (path_of r)) d.var d.val) where
+  box_here : IsBox root (reached root (path_of r))
+  box_here = stand_box root r.stand h.stand
 
   -- where the rounds fail, they fail on a side
-  pub entered_lost : fix_at m limit (reached (root_of m) (path_of r)) ≡ None → IsEndBy m limit (path_of r ++ d ∷ []) r.engine
+  pub entered_lost : fix (reached root (path_of r)) ≡ None → IsEndBy root fix ps (path_of r ++ d ∷ []) r.engine
   entered_lost none =
       let i = box_here in
-      let side = half_box (reached (root_of m) (path_of r)) d.var d.val d.side i.1 s in
-      end_lost m limit (path_of r) r.engine h.rounds d
-      (posted_parts m limit post.props post.are (reached (root_of m) (path_of r)) (decided d (reached (root_of m) (path_of r))) i
+      let side = half_box (reached root (path_of r)) d.var d.val d.side i.1 s in
+      end_lost root fix ps (path_of r) r.engine h.ends d
+      (rounds_parts root fix ps h.rounds (reached root (path_of r)) (decided d (reached root (path_of r))) i
       (Below-trans _ _ _ side.0 i.0, side.1) side.0 none)
 
-  module _ (a : State AnyProp) (at : r.engine ≡ Some a) (rests : fix_at m limit (reached (root_of m) (path_of r)) ≢ None) where
-    none : h.rounds.dead ≡ []
-    none = none_dead m limit (path_of r) r.engine h.rounds rests
+  module _ (a : State AnyProp) (at : r.engine ≡ Some a) (rests : fix (reached root (path_of r)) ≢ None) where
+    none : h.ends.dead ≡ []
+    none = none_dead root fix ps (path_of r) r.engine h.ends rests
 
-    end_a : IsEngineAt m limit h.rounds.live a
-    end_a = subst (IsEndAt m limit h.rounds.live) at h.rounds.end
+    end_a : IsEngineAt root fix ps h.ends.live a
+    end_a = subst (IsEndAt root fix ps h.ends.live) at h.ends.end
 
-    ends : fix_at m limit (reached (root_of m) (path_of r)) ≡ Some a.store.sets
-    ends = rests_some m limit (path_of r) r.engine h.rounds a at none
+    here : fix (reached root (path_of r)) ≡ Some a.store.sets
+    here = rests_some root fix ps (path_of r) r.engine h.ends a at none
 
     pub engine_there : d.var.0 < length a.store.sets
     engine_there = let i = box_here in let long = end_a.long in omega (arith, s.0, i.0.long, long)
 
     pub engine_live : NoneEmpty a.store.sets
-    engine_live = (posted_inside m limit a.props end_a.posted (reached (root_of m) (path_of r)) a.store.sets box_here ends).1
+    engine_live = (rounds_inside root fix ps h.rounds (reached root (path_of r)) a.store.sets box_here here).1
 
-    all_live : path_of r ≡ h.rounds.live
-    all_live = h.rounds.path ∙ (ap (λ (ds : List Decision). h.rounds.live ++ ds) none ∙ append-nil h.rounds.live)
+    -- from the engine's own propagators to these
+    side_end_is : (b : Option Sets) → side_end a.props d (reached root (path_of r)) ≡ b → side_end ps d (reached root (path_of r)) ≡ b
+    side_end_is b e = subst (λ (qs : List AnyProp). side_end qs d (reached root (path_of r)) ≡ b) end_a.props e
 
-    pub entered_by : (b : State AnyProp) (stable : Bool) → IsDecided d a b stable → IsEndBy m limit (path_of r ++ d ∷ []) (Some b)
+    own_end : fix_of cut_of a.props (reached root (path_of r)) ≡ Some a.store.sets
+    own_end = ap (λ (qs : List AnyProp). fix_of cut_of qs (reached root (path_of r))) end_a.props
+        ∙ (h.rounds.fixed (reached root (path_of r)) ∙ here)
+
+    all_live : path_of r ≡ h.ends.live
+    all_live = h.ends.path ∙ (ap (λ (ds : List Decision). h.ends.live ++ ds) none ∙ append-nil h.ends.live)
+
+    pub entered_by : (b : State AnyProp) (stable : Bool) → IsDecided d a b stable → IsEndBy root fix ps (path_of r ++ d ∷ []) (Some b)
     entered_by b true h' =
         let i = box_here in
-        let end = side_is m limit a.props d (reached (root_of m) (path_of r)) (Some b.store.sets) end_a.posted i s
-        (h'.1 (reached (root_of m) (path_of r)) i.1 (i.0.long ∙ sym end_a.long)
-        (end_a.posted.fixed (reached (root_of m) (path_of r)) ∙ ends)) in
-        let side = side_box (root_of m) (reached (root_of m) (path_of r)) d d.side i s in
-        let same : reached (root_of m) (path_of r) ≡ reached (root_of m) h.rounds.live = ap (reached (root_of m)) all_live in
+        let end = side_is root fix ps d (reached root (path_of r)) (Some b.store.sets) h.rounds i s
+        (side_end_is (Some b.store.sets) (h'.1 (reached root (path_of r)) i.1 (i.0.long ∙ sym end_a.long) own_end)) in
+        let side = side_box root (reached root (path_of r)) d d.side i s in
+        let same : reached root (path_of r) ≡ reached root h.ends.live = ap (reached root) all_live in
         record {
-          live = h.rounds.live ++ d ∷ [];
+          live = h.ends.live ++ d ∷ [];
           dead = [];
-          path = ap (λ (ds : List Decision). ds ++ d ∷ []) all_live ∙ sym (append-nil (h.rounds.live ++ d ∷ []));
+          path = ap (λ (ds : List Decision). ds ++ d ∷ []) all_live ∙ sym (append-nil (h.ends.live ++ d ∷ []));
           end = record {
-            posted = subst (ArePosted m limit) (sym h'.0.props) end_a.posted;
+            props = h'.0.props ∙ end_a.props;
             long = h'.0.long ∙ end_a.long;
-            at = subst (λ (ms : List Sets). Leveled (root_of m) (fix_at m limit) (root_of m) (h.rounds.live ++ d ∷ []) ms b.store.sets)
-                (sym h'.0.marked) (leveled_push (root_of m) (fix_at m limit) (root_of m) h.rounds.live a.store.marked a.store.sets b.store.sets
-                d end_a.at (subst (λ (c : Sets). IsBox (root_of m) (decided d c)) same side)
-                (subst (λ (c : Sets). fix_at m limit (decided d c) ≡ Some b.store.sets) same end));
+            at = subst (λ (ms : List Sets). Leveled root fix root (h.ends.live ++ d ∷ []) ms b.store.sets)
+                (sym h'.0.marked) (leveled_push root fix root h.ends.live a.store.marked a.store.sets b.store.sets
+                d end_a.at (subst (λ (c : Sets). IsBox root (decided d c)) same side)
+                (subst (λ (c : Sets). fix (decided d c) ≡ Some b.store.sets) same end));
           };
           lost = tt;
         }
     entered_by b false h' =
         let i = box_here in
-        let end = side_is m limit a.props d (reached (root_of m) (path_of r)) None end_a.posted i s
-        (h'.1 (reached (root_of m) (path_of r)) i.1 (i.0.long ∙ sym end_a.long)
-        (end_a.posted.fixed (reached (root_of m) (path_of r)) ∙ ends)) in
-        end_lost m limit (path_of r) (Some b) (record {
-          live = h.rounds.live;
-          dead = h.rounds.dead;
-          path = h.rounds.path;
+        let end = side_is root fix ps d (reached root (path_of r)) None h.rounds i s
+        (side_end_is None (h'.1 (reached root (path_of r)) i.1 (i.0.long ∙ sym end_a.long) own_end)) in
+        end_lost root fix ps (path_of r) (Some b) (record {
+          live = h.ends.live;
+          dead = h.ends.dead;
+          path = h.ends.path;
           end = record {
-            posted = subst (ArePosted m limit) (sym h'.0.props) end_a.posted;
+            props = h'.0.props ∙ end_a.props;
             long = ap length h'.0.sets ∙ end_a.long;
-            at = subst (λ (ms : List Sets). Leveled (root_of m) (fix_at m limit) (root_of m) h.rounds.live ms b.store.sets)
-                (sym h'.0.marked) (subst (Leveled (root_of m) (fix_at m limit) (root_of m) h.rounds.live a.store.marked)
+            at = subst (λ (ms : List Sets). Leveled root fix root h.ends.live ms b.store.sets)
+                (sym h'.0.marked) (subst (Leveled root fix root h.ends.live a.store.marked)
                 (sym h'.0.sets) end_a.at);
           };
-          lost = h.rounds.lost;
+          lost = h.ends.lost;
         }) d end
 
 -- ---- up
 
 -- an engine has a mark for each decision on the way
-engine_marks : (m : Model) (limit : Option ℕ) (ds : List Decision) (e : Option (State AnyProp)) → IsEndAt m limit ds e → ds ≢ []
+engine_marks : (root : Sets) (fix : Sets → Option Sets) (ps : List AnyProp) (ds : List Decision) (e : Option (State AnyProp)) → IsEndAt root fix ps ds e → ds ≢ []
     → IfSome e (λ s. 0 < length s.store.marked)
-engine_marks m limit ds None end some = tt
-engine_marks m limit ds (Some a) end some =
-    let long = leveled_long (root_of m) (fix_at m limit) (root_of m) ds a.store.marked a.store.sets end.at in
+engine_marks root fix ps ds None end some = tt
+engine_marks root fix ps ds (Some a) end some =
+    let long = leveled_long root fix root ds a.store.marked a.store.sets end.at in
     let there : 0 < length ds = not_nil ds some in omega (arith, long, there)
 
 last_of : (xs : List Decision) → xs ≢ [] → (ys : List Decision) × (y : Decision) × (xs ≡ ys ++ y ∷ [])
@@ -262,40 +270,40 @@ last_of (x ∷ []) some = ([], x, refl)
 last_of (x ∷ z ∷ zs) some =
     let rest = last_of (z ∷ zs) (λ is. cc is) in (x ∷ rest.0, rest.1, ap (λ (ys : List Decision). x ∷ ys) rest.2)
 
-undone_end : (m : Model) (limit : Option ℕ) (ds : List Decision) (d : Decision) (a b : Option (State AnyProp))
-    → IsEndAt m limit (ds ++ d ∷ []) a → IsUndone a b → IsEndAt m limit ds b
-undone_end m limit ds d None None end u = absurd (snoc_some (ds ++ d ∷ []) ds d refl end.0)
-undone_end m limit ds d None (Some b) end u = absurd u
-undone_end m limit ds d (Some a) None end u = absurd u
-undone_end m limit ds d (Some a) (Some b) end u = record {
-  posted = subst (ArePosted m limit) u.props end.posted;
+undone_end : (root : Sets) (fix : Sets → Option Sets) (ps : List AnyProp) (ds : List Decision) (d : Decision) (a b : Option (State AnyProp))
+    → IsEndAt root fix ps (ds ++ d ∷ []) a → IsUndone a b → IsEndAt root fix ps ds b
+undone_end root fix ps ds d None None end u = absurd (snoc_some (ds ++ d ∷ []) ds d refl end.0)
+undone_end root fix ps ds d None (Some b) end u = absurd u
+undone_end root fix ps ds d (Some a) None end u = absurd u
+undone_end root fix ps ds d (Some a) (Some b) end u = record {
+  props = sym u.props ∙ end.props;
   long = sym u.long ∙ end.long;
-  at = leveled_pop (root_of m) (fix_at m limit) (root_of m) ds b.store.marked a.store.sets b.store.sets d
-      (subst (λ (ms : List Sets). Leveled (root_of m) (fix_at m limit) (root_of m) (ds ++ d ∷ []) ms a.store.sets) u.marked end.at);
+  at = leveled_pop root fix root ds b.store.marked a.store.sets b.store.sets d
+      (subst (λ (ms : List Sets). Leveled root fix root (ds ++ d ∷ []) ms a.store.sets) u.marked end.at);
 }
 
-module _ (m : Model) (limit : Option ℕ) (old new : List Decision) (d : Decision) (path : old ≡ new ++ d ∷ []) (a : Option (State AnyProp))
-    (h : IsEndBy m limit old a) where
+module _ (root : Sets) (fix : Sets → Option Sets) (ps : List AnyProp) (old new : List Decision) (d : Decision) (path : old ≡ new ++ d ∷ []) (a : Option (State AnyProp))
+    (h : IsEndBy root fix ps old a) where
   live_path : h.dead ≡ [] → h.live ≡ new ++ d ∷ []
   live_path none = sym (append-nil h.live) ∙ (ap (λ (ds : List Decision). h.live ++ ds) (sym none) ∙ (sym h.path ∙ path))
 
   -- where the rounds do not fail, the last decision has a mark
-  pub left_marks : fix_at m limit (reached (root_of m) old) ≢ None → IfSome a (λ s. 0 < length s.store.marked)
+  pub left_marks : fix (reached root old) ≢ None → IfSome a (λ s. 0 < length s.store.marked)
   left_marks rests =
-      engine_marks m limit h.live a h.end (snoc_some h.live new d (live_path (none_dead m limit old a h rests)))
+      engine_marks root fix ps h.live a h.end (snoc_some h.live new d (live_path (none_dead root fix ps old a h rests)))
 
   -- up from where they do not fail
-  up_live : (b : Option (State AnyProp)) → h.dead ≡ [] → IsUndone a b → IsEndBy m limit new b
+  up_live : (b : Option (State AnyProp)) → h.dead ≡ [] → IsUndone a b → IsEndBy root fix ps new b
   up_live b none u = record {
     live = new;
     dead = [];
     path = sym (append-nil new);
-    end = undone_end m limit new d a b (subst (λ (ds : List Decision). IsEndAt m limit ds a) (live_path none) h.end) u;
+    end = undone_end root fix ps new d a b (subst (λ (ds : List Decision). IsEndAt root fix ps ds a) (live_path none) h.end) u;
     lost = tt;
   }
 
   -- up from where they fail
-  up_dead : h.dead ≢ [] → IsEndBy m limit new a
+  up_dead : h.dead ≢ [] → IsEndBy root fix ps new a
   up_dead some =
       let last = last_of h.dead some in
       let same = last_once new (h.live ++ last.0) d last.1
@@ -305,40 +313,41 @@ module _ (m : Model) (limit : Option ℕ) (old new : List Decision) (d : Decisio
         dead = last.0;
         path = same.0;
         end = h.end;
-        lost = lost_init (fix_at m limit) (reached (root_of m) h.live) last.0 last.1
-            (subst (AllLost (fix_at m limit) (reached (root_of m) h.live)) last.2 h.lost);
+        lost = lost_init fix (reached root h.live) last.0 last.1
+            (subst (AllLost fix (reached root h.live)) last.2 h.lost);
       }
 
-  some_dead : fix_at m limit (reached (root_of m) old) ≡ None → h.dead ≢ []
+  some_dead : fix (reached root old) ≡ None → h.dead ≢ []
   some_dead lost none = by a refl
     where
       by : (o : Option (State AnyProp)) → a ≡ o → ⊥
-      by None is = snoc_some h.live new d (live_path none) (subst (IsEndAt m limit h.live) is h.end).0
-      by (Some e) is = let rests = rests_some m limit old a h e is none in cc (rests, lost)
+      by None is = snoc_some h.live new d (live_path none) (subst (IsEndAt root fix ps h.live) is h.end).0
+      by (Some e) is = let rests = rests_some root fix ps old a h e is none in cc (rests, lost)
 
   -- one decision less
   pub end_up : (b : Option (State AnyProp)) (lost : Bool)
-      → (lost ≡ true → fix_at m limit (reached (root_of m) old) ≡ None) → (lost ≡ false → fix_at m limit (reached (root_of m) old) ≢ None)
-      → IsLeft a b lost → IsEndBy m limit new b
-  end_up b true fails rests same = subst (IsEndBy m limit new) (sym same) (up_dead (some_dead (fails refl)))
-  end_up b false fails rests undone = up_live b (none_dead m limit old a h (rests refl)) undone
+      → (lost ≡ true → fix (reached root old) ≡ None) → (lost ≡ false → fix (reached root old) ≢ None)
+      → IsLeft a b lost → IsEndBy root fix ps new b
+  end_up b true fails rests same = subst (IsEndBy root fix ps new) (sym same) (up_dead (some_dead (fails refl)))
+  end_up b false fails rests undone = up_live b (none_dead root fix ps old a h (rests refl)) undone
 
 -- ---- the first box
 
-module _ (m : Model) (limit : Option ℕ) (full : NoneEmpty (root_of m)) (ps : List AnyProp) (posted : ArePosted m limit ps) where
-  first_end : (e : Option (State AnyProp)) → IsEnd cut_of ps (root_of m) e → IsEndAt m limit [] e
-  first_end None h = (refl, sym (posted.fixed (root_of m)) ∙ h)
+module _ (root : Sets) (fix : Sets → Option Sets) (ps : List AnyProp) (full : NoneEmpty root) (rounds : AreRounds root fix ps) where
+  first_end : (e : Option (State AnyProp)) → IsEnd cut_of ps root e → IsEndAt root fix ps [] e
+  first_end None h = (refl, sym (rounds.fixed root) ∙ h)
   first_end (Some e) h = record {
-    posted = subst (ArePosted m limit) (sym h.props) posted;
+    props = h.props;
     long = h.long;
-    at = subst (λ (ms : List Sets). Leveled (root_of m) (fix_at m limit) (root_of m) [] ms e.store.sets) (sym h.fresh)
-        ((Below-refl (root_of m), full), sym (posted.fixed (root_of m)) ∙ h.fix);
+    at = subst (λ (ms : List Sets). Leveled root fix root [] ms e.store.sets) (sym h.fresh)
+        ((Below-refl root, full), sym (rounds.fixed root) ∙ h.fix);
   }
 
-  pub first_at : (s : Sets) (r : Room) → s ≡ root_of m → IsEnd cut_of ps s r.engine → IsStandAt s r.stand → path_of r ≡ [] → IsAt m limit r
+  pub first_at : (s : Sets) (r : Room) → s ≡ root → IsEnd cut_of ps s r.engine → IsStandAt root r.stand → path_of r ≡ [] → IsRoomAt root fix ps r
   first_at s r is end at path = record {
-    stand = subst (λ (b : Sets). IsStandAt b r.stand) is at;
-    rounds = record {
+    rounds = rounds;
+    stand = at;
+    ends = record {
       live = [];
       dead = [];
       path = path;
@@ -346,3 +355,15 @@ module _ (m : Model) (limit : Option ℕ) (full : NoneEmpty (root_of m)) (ps : L
       lost = tt;
     };
   }
+
+-- ---- rooms from place to place
+
+pub room_goes : (a b : Room) → IsRoom a → Goes a b → IsRoom b
+room_goes a b g goes = record { root = g.root; fix = g.fix; props = g.props; at = goes g.root g.fix g.props g.at }
+
+pub room_on : (ds : List Decision) (r : Room) → IsRoomOn ds r → IsRoom r
+room_on ds r g = record { root = g.root; fix = g.fix; props = g.props; at = g.at }
+
+pub on_goes : (ds : List Decision) (a b : Room) → IsRoomOn ds a → Goes a b → IsRoomOn ds b
+on_goes ds a b g goes =
+    record { root = g.root; fix = g.fix; props = g.props; at = goes g.root g.fix g.props g.at; split = g.split }

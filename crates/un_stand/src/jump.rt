@@ -1,12 +1,9 @@
 //! From one place of a tree to another: up to the decisions that both paths begin with, and down again.
 
 ghost use Rattle.std.specs.Prelude.{◌≡◌, ◌≢◌, ◌↔◌, ◌<◌, ◌≤◌, [], IsTrue, OnOk, length, slice_get, take};
-ghost use Rattle.un_model.specs.Boxes.{root_of};
-ghost use Rattle.un_stand.specs.Rooms.{CanCheck, IsAt, path_of};
-ghost use Rattle.un_walk.specs.Stands.{AllSplit};
+ghost use Rattle.un_stand.specs.Rooms.{Goes, IsRoom, IsRoomOn, path_of};
 
 use crate::room::{Room, go_down, go_up};
-use crate::rules::Rules;
 use un_base::memory_error::NoMemory;
 use un_domains::side::Side;
 use un_tree::node::Decision;
@@ -41,37 +38,35 @@ fn shared(a: &[Decision], b: &[Decision]) -> usize
 }
 
 /// Goes up to the first decisions.
-fn rise(rules: &Rules, room: &mut Room, keep: usize)
-    requires at { IsAt rules.now.m.now rules.now.limit room.old }
-    ensures at { IsAt rules.now.m.now rules.now.limit room.new }
+fn rise(room: &mut Room, keep: usize)
+    requires { IsRoom room.old }
+    ensures at { Goes room.old room.new }
     ensures path { path_of room.new ≡ take keep (path_of room.old) }
 {
     while room.stand.path.len() > keep {
-        go_up(rules, room);
+        go_up(room);
     }
 }
 
 /// Goes up to the first box.
-pub fn to_first(rules: &Rules, room: &mut Room)
-    requires at { IsAt rules.now.m.now rules.now.limit room.old }
-    ensures at { IsAt rules.now.m.now rules.now.limit room.new }
+pub fn to_first(room: &mut Room)
+    requires { IsRoom room.old }
+    ensures at { Goes room.old room.new }
     ensures first { path_of room.new ≡ [] }
 {
-    rise(rules, room, 0);
+    rise(room, 0);
 }
 
 /// Goes down to the end of a path, of which it stands on the way.
-fn descend(rules: &Rules, room: &mut Room, path: &[Decision]) -> Result<(), NoMemory>
-    requires rules { CanCheck rules.now }
-    requires at { IsAt rules.now.m.now rules.now.limit room.old }
+fn descend(room: &mut Room, path: &[Decision]) -> Result<(), NoMemory>
+    requires at { IsRoomOn path.now room.old }
     requires begun { path_of room.old ≡ take (length (path_of room.old)) path.now }
-    requires split { AllSplit (root_of rules.now.m.now) path.now }
-    ensures at { OnOk result (IsAt rules.now.m.now rules.now.limit room.new) }
+    ensures at { OnOk result (Goes room.old room.new) }
     ensures path { OnOk result (path_of room.new ≡ path.now) }
 {
     let mut at = room.stand.path.len();
     while at < path.len() {
-        go_down(rules, room, path[at])?;
+        go_down(room, path[at])?;
         at += 1;
     }
     Ok(())
@@ -81,15 +76,13 @@ fn descend(rules: &Rules, room: &mut Room, path: &[Decision]) -> Result<(), NoMe
 ///
 /// # Errors
 /// Where memory is short; then the room is good for nothing but to be dropped.
-pub fn go_to(rules: &Rules, room: &mut Room, path: &[Decision]) -> Result<(), NoMemory>
-    requires rules { CanCheck rules.now }
-    requires at { IsAt rules.now.m.now rules.now.limit room.old }
-    requires split { AllSplit (root_of rules.now.m.now) path.now }
-    ensures at { OnOk result (IsAt rules.now.m.now rules.now.limit room.new) }
+pub fn go_to(room: &mut Room, path: &[Decision]) -> Result<(), NoMemory>
+    requires { IsRoomOn path.now room.old }
+    ensures at { OnOk result (Goes room.old room.new) }
     ensures path { OnOk result (path_of room.new ≡ path.now) }
 {
     let keep = shared(room.stand.path.as_slice(), path);
-    rise(rules, room, keep);
-    descend(rules, room, path)?;
+    rise(room, keep);
+    descend(room, path)?;
     Ok(())
 }

@@ -1,4 +1,4 @@
-//! Where a walk over a model's tree stands, with an engine at what the rounds leave of the box there.
+//! Where a walk over boxes stands, with an engine at what rounds leave of the box there: those of a model, or of one of its blocks.
 #![tactic(auto)]
 
 pub mod jump;

@@ -1,33 +1,31 @@
-//! Where a walk over a model's tree stands: the box there, and what the rounds leave of it.
+//! Where a walk over boxes stands: the box there, and what rounds leave of it.
 
-ghost use Rattle.std.specs.Prelude.{◌≡◌, ◌≢◌, ◌<◌, ◌++◌, ◌∷◌, [], ℕ, Option, None, Some, true, false, OnOk, IfOk, IfSome, IfNone, All, length};
+ghost use Rattle.std.specs.Prelude.{◌≡◌, ◌<◌, ◌++◌, ◌∷◌, [], List, All, None, true, false, OnOk, IfOk, IfSome, IfNone, length};
 ghost use Rattle.std.specs.Option.{option_to_list};
-ghost use Rattle.un_domains.specs.Sets.{NoneEmpty};
-ghost use Rattle.un_model.specs.declared.model.Model.{Model};
-ghost use Rattle.un_post.specs.Posts.{SpansAtMost, fix_at};
-ghost use Rattle.un_tree.specs.Boxes.{Splits, reached};
-ghost use Rattle.un_model.specs.Boxes.{root_of};
-ghost use Rattle.un_certificate.specs.Posted.{ArePosted};
+ghost use Rattle.un_domains.specs.Sets.{Sets, NoneEmpty};
+ghost use Rattle.std.specs.declared.option.Option.{Option};
+ghost use Rattle.un_tree.specs.Boxes.{Splits};
+ghost use Rattle.un_kinds.specs.declared.any.AnyProp.{AnyProp};
+ghost use Rattle.un_post.specs.Posts.{ReadsFrom, SpansAtMost};
+ghost use Rattle.un_certificate.specs.Posted.{AreRounds};
 ghost use Rattle.un_stand.specs.Engines.{IsLeft, IsDecided};
-ghost use Rattle.un_stand.specs.Rooms.{CanCheck, IsAt, IsEndBy, path_of};
+ghost use Rattle.un_stand.specs.Rooms.{Goes, IsEndBy, IsLost, IsRoom, IsRoomAt, Rests, path_of};
 ghost use Rattle.un_walk.specs.Routes.{paths_after};
 ghost use Rattle.un_walk.specs.Turns.{paths_behind, paths_at};
 
-use crate::rules::Rules;
 use std::alloc::Global;
 use un_base::ids::VarId;
 use un_base::memory_error::NoMemory;
 use un_domains::side::Side;
+use un_domains::store::Store;
 use un_engine::engine::Engine;
 use un_kinds::any::AnyProp;
-use un_post::post::Posted;
 use un_prop::run::Fix;
 use un_tree::node::Decision;
 use un_walk::stand;
 use un_walk::stand::Stand;
 
-/// Where a walk over a model's tree stands. The rounds do not fail on the boxes that the first decisions make, and fail on those of
-/// the others.
+/// Where a walk over boxes stands. The rounds do not fail on the boxes that the first decisions make, and fail on those of the others.
 #[derive(Drop)]
 pub struct Room {
     /// The box of all decisions.
@@ -36,38 +34,36 @@ pub struct Room {
     pub engine: Option<Engine<AnyProp>>,
 }
 
-/// At the first box of what was posted.
+/// At a first box: that of `cuts`, with propagators whose cycles go from 0 to `horizon`, and a store with the same box for them.
 ///
 /// # Errors
 /// Where memory is short.
-pub fn first_room(alloc: Global, rules: &Rules, posted: Posted) -> Result<Room, NoMemory>
-    requires posted { ArePosted rules.now.m.now rules.now.limit posted.props.items }
-    requires sets { posted.store.sets ≡ root_of rules.now.m.now }
-    requires spans { All (SpansAtMost posted.horizon) posted.props.items }
-    requires live { NoneEmpty posted.store.sets }
-    requires fresh { posted.store.marked ≡ [] }
-    ensures at { IfOk result (IsAt rules.now.m.now rules.now.limit) }
+pub fn first_room(
+    alloc: Global,
+    cuts: Store,
+    props: Vec<AnyProp>,
+    store: Store,
+    horizon: u32,
+) -> Result<Room, NoMemory>
+    requires same { store.sets ≡ cuts.sets }
+    requires spans { All (SpansAtMost horizon) props.items }
+    requires reads { All (ReadsFrom cuts.sets) props.items }
+    requires live { NoneEmpty cuts.sets }
+    requires fresh { cuts.marked ≡ [] }
+    requires unmarked { store.marked ≡ [] }
+    ensures at { IfOk result (λ room. (fix : Sets → Option Sets) → AreRounds cuts.sets fix props.items
+        → IsRoomAt cuts.sets fix props.items room) }
     ensures first { IfOk result (λ room. path_of room ≡ []) }
 {
-    let _ = rules;
-    let cuts = posted.store.copy(alloc)?;
     let stand = stand::first_stand(alloc, cuts);
-    let Posted {
-        props,
-        store,
-        horizon,
-        ..
-    } = posted;
     let engine = Engine::new(alloc, props, store, horizon)?;
     Ok(Room { stand, engine })
 }
 
 /// Whether the rounds fail on the box.
 pub fn is_lost(room: &Room) -> bool
-    ensures lost { result ≡ true → (m : Model) (limit : Option ℕ) → IsAt m limit room.now
-        → fix_at m limit (reached (root_of m) (path_of room.now)) ≡ None }
-    ensures rests { result ≡ false → (m : Model) (limit : Option ℕ) → IsAt m limit room.now
-        → fix_at m limit (reached (root_of m) (path_of room.now)) ≢ None }
+    ensures lost { result ≡ true → IsLost room.now }
+    ensures rests { result ≡ false → Rests room.now }
 {
     match &room.engine {
         None => true,
@@ -92,14 +88,13 @@ fn decide_in(engine: &mut Engine<AnyProp>, decision: Decision) -> Result<bool, N
 }
 
 /// Takes a decision in the engine, if the rounds do not fail on the box.
-fn enter(rules: &Rules, room: &mut Room, decision: Decision) -> Result<(), NoMemory>
-    requires rules { CanCheck rules.now }
-    requires at { IsAt rules.now.m.now rules.now.limit room.old }
-    requires split { Splits (reached (root_of rules.now.m.now) (path_of room.old)) decision.var decision.val }
+fn enter(room: &mut Room, decision: Decision) -> Result<(), NoMemory>
+    requires at { IsRoom room.old }
+    requires split { Splits room.old.stand.cuts.sets decision.var decision.val }
     ensures stand { OnOk result (room.new.stand ≡ room.old.stand) }
-    ensures end { OnOk result (IsEndBy rules.now.m.now rules.now.limit (path_of room.old ++ decision ∷ []) room.new.engine) }
+    ensures end { OnOk result ((root : Sets) (fix : Sets → Option Sets) (ps : List AnyProp) → IsRoomAt root fix ps room.old
+        → IsEndBy root fix ps (path_of room.old ++ decision ∷ []) room.new.engine) }
 {
-    let _ = rules;
     if is_lost(room) {
         return Ok(());
     }
@@ -116,14 +111,13 @@ fn enter(rules: &Rules, room: &mut Room, decision: Decision) -> Result<(), NoMem
 ///
 /// # Errors
 /// Where memory is short; then the room is good for nothing but to be dropped.
-pub fn go_down(rules: &Rules, room: &mut Room, decision: Decision) -> Result<(), NoMemory>
-    requires rules { CanCheck rules.now }
-    requires at { IsAt rules.now.m.now rules.now.limit room.old }
-    requires split { Splits (reached (root_of rules.now.m.now) (path_of room.old)) decision.var decision.val }
-    ensures at { OnOk result (IsAt rules.now.m.now rules.now.limit room.new) }
+pub fn go_down(room: &mut Room, decision: Decision) -> Result<(), NoMemory>
+    requires at { IsRoom room.old }
+    requires split { Splits room.old.stand.cuts.sets decision.var decision.val }
+    ensures at { OnOk result (Goes room.old room.new) }
     ensures path { OnOk result (path_of room.new ≡ path_of room.old ++ decision ∷ []) }
 {
-    enter(rules, room, decision)?;
+    enter(room, decision)?;
     stand::go_down(&mut room.stand, decision)?;
     Ok(())
 }
@@ -143,13 +137,12 @@ fn leave(engine: &mut Option<Engine<AnyProp>>, lost: bool)
 }
 
 /// Takes the last decision back, and answers it.
-pub fn go_up(rules: &Rules, room: &mut Room) -> Option<Decision>
-    requires { IsAt rules.now.m.now rules.now.limit room.old }
-    ensures at { IsAt rules.now.m.now rules.now.limit room.new }
+pub fn go_up(room: &mut Room) -> Option<Decision>
+    requires { IsRoom room.old }
+    ensures at { Goes room.old room.new }
     ensures path { path_of room.old ≡ path_of room.new ++ option_to_list result }
     ensures none { IfNone result (path_of room.old ≡ []) }
 {
-    let _ = rules;
     let lost = is_lost(room);
     match stand::go_up(&mut room.stand) {
         None => None,
@@ -164,20 +157,19 @@ pub fn go_up(rules: &Rules, room: &mut Room) -> Option<Decision>
 ///
 /// # Errors
 /// Where memory is short; then the room is good for nothing but to be dropped.
-pub fn turn(rules: &Rules, room: &mut Room) -> Result<bool, NoMemory>
-    requires rules { CanCheck rules.now }
-    requires at { IsAt rules.now.m.now rules.now.limit room.old }
-    ensures at { OnOk result (IsAt rules.now.m.now rules.now.limit room.new) }
+pub fn turn(room: &mut Room) -> Result<bool, NoMemory>
+    requires { IsRoom room.old }
+    ensures at { OnOk result (Goes room.old room.new) }
     ensures waits { IfOk result (λ more. paths_behind [] (path_of room.old) ≡ paths_at (path_of room.new) more) }
 {
-    while let Some(decision) = go_up(rules, room) {
+    while let Some(decision) = go_up(room) {
         if let Side::AtMost = decision.side {
             let other = Decision {
                 var: decision.var,
                 val: decision.val,
                 side: Side::Above,
             };
-            go_down(rules, room, other)?;
+            go_down(room, other)?;
             return Ok(true);
         }
     }
@@ -188,22 +180,21 @@ pub fn turn(rules: &Rules, room: &mut Room) -> Result<bool, NoMemory>
 ///
 /// # Errors
 /// Where memory is short; then the room is good for nothing but to be dropped.
-pub fn step(rules: &Rules, room: &mut Room, branch: Option<(VarId, u32)>) -> Result<bool, NoMemory>
-    requires rules { CanCheck rules.now }
-    requires at { IsAt rules.now.m.now rules.now.limit room.old }
-    requires strict { IfSome branch (λ b. Splits (reached (root_of rules.now.m.now) (path_of room.old)) b.0 b.1) }
-    ensures at { OnOk result (IsAt rules.now.m.now rules.now.limit room.new) }
+pub fn step(room: &mut Room, branch: Option<(VarId, u32)>) -> Result<bool, NoMemory>
+    requires at { IsRoom room.old }
+    requires strict { IfSome branch (λ b. Splits room.old.stand.cuts.sets b.0 b.1) }
+    ensures at { OnOk result (Goes room.old room.new) }
     ensures waits { IfOk result (λ more. paths_after branch (path_of room.old) (paths_behind [] (path_of room.old))
         ≡ paths_at (path_of room.new) more) }
 {
     match branch {
         None => {
-            let more = turn(rules, room)?;
+            let more = turn(room)?;
             Ok(more)
         }
         Some((var, val)) => {
             let side = Side::AtMost;
-            go_down(rules, room, Decision { var, val, side })?;
+            go_down(room, Decision { var, val, side })?;
             Ok(true)
         }
     }

@@ -51,7 +51,7 @@ is_view r h = record {
   nodes = h.nodes;
   answer = h.answer;
   count = h.count;
-  tree = record { nodes = r.tree.nodes.items; are = (refl, h.fit); spelled = refl };
+  tree = record { nodes = r.tree.nodes.items; are = (refl, h.fit, h.allowed); spelled = refl };
 }
 
 pub one_report : (text : List ℕ) (r s : Report) → IsReportRead text r → IsReportRead text s → AreSame r s

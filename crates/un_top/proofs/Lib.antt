@@ -12,6 +12,7 @@ pub mod Refused
 pub mod RefutationLines
 pub mod RefuteLaws
 pub mod ReportLines
+pub mod RightTrees
 pub mod Rows
 pub mod SearchLaws
 pub mod StepLaws

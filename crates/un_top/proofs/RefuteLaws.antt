@@ -106,7 +106,7 @@ refutation_is f m nodes limit t u text p count small h kept few some fit short p
     none_below : NoneBelow m limit
     none_below x is = elim (cases_lt (cost_of m x) limit) [
       | inr ge ↦ ge
-      | inl less ↦ absurd (refuted m (Some limit) t p.own (standing m (Some limit) t h.certificate) h.closed x.values (is, less))
+      | inl less ↦ absurd (refuted m (Some limit) t p.own p.extended p.fit p.options (standing m (Some limit) t h.certificate) h.closed x.values (is, less))
     ]
 
 -- ---- by a table and options that are others

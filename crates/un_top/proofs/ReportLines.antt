@@ -11,9 +11,9 @@ use Rattle.un_report.specs.declared.report.Report.{Report}
 use Rattle.un_report.specs.Reports.{numbers_from, numbers_text}
 use Rattle.un_report_reader.specs.FirstBad.{IsBadBehind, InLine, BehindKind, InFunction, InModel, InAnswer, InCost, InBound}
 use Rattle.un_report_reader.specs.FirstBad.{InListing, InCode, InSolution, InNumbers, InTree, InNodes, InEnd, InNothing, IsFirstBad}
-use Rattle.un_report_reader.specs.FirstBad.{InLastNumbers, IsFirstBadAlone}
+use Rattle.un_report_reader.specs.FirstBad.{BeginsNoAllowed, InLastNumbers, IsFirstBadAlone}
 use Rattle.un_report_reader.specs.FirstBad.{IsBadCode, IsBadNumber, IsBadNode, first_lines, numbers_lines, lines_in_code}
-use Rattle.un_report_reader.specs.Limits.{AreSmall, AreFewLines, limits_of}
+use Rattle.un_report_reader.specs.Limits.{AreSmall, AreFewLines, IsAllowed, limits_of}
 use Rattle.un_report_reader.specs.Lines.{one, version_text, IsName, function_text, AreSettings, settings_text, IsAny, kind_text}
 use Rattle.un_report_reader.specs.Lines.{number_text, IsLong, IsShort, cost_text, bound_text, listing_head, HasLines, solution_head, AreNumbers}
 use Rattle.un_report_reader.specs.Lines.{tree_head, AreNodes, IsPlain, end_text}
@@ -28,7 +28,7 @@ use Rattle.un_report_reader.proofs.Once.{Once, number_line_once, function_once, 
 use Rattle.un_report_reader.proofs.WholeTexts.{text_is_good, report_parts}
 use Rattle.std.specs.List.{AllByRecursion}
 use Rattle.un_tree.proofs.TreeTexts.{first_once, text_cons}
-use Rattle.un_tree.specs.Texts.{Fits, tree_text, BeginsNoNode}
+use Rattle.un_tree.specs.Texts.{Fits, tree_text}
 use Rattle.un_tree.specs.declared.node.Node.{Node}
 
 -- ---- a part, and what is behind it
@@ -60,45 +60,45 @@ short_once word = number_line_once word 0 (2 ^ 32 - 1) (omega arith)
 
 -- ---- the tree
 
--- where fewer nodes stand, the next does
-node_stands : (before ns : List Node) (rest a : List ℕ) → AllByRecursion Fits before → AllByRecursion Fits ns → length before < length ns
-    → tree_text before ++ rest ≡ tree_text ns ++ a → BeginsNoNode rest → ⊥
-node_stands before [] rest a f g few e none = absurd (omega (arith, few))
-node_stands [] (n ∷ ns) rest a f g few e none = none n (tree_text ns ++ a) g.0 (e ∙ text_cons n ns a)
-node_stands (m ∷ ms) (n ∷ ns) rest a f g few e none =
+-- where fewer nodes stand, the next does, which is one that a report with these limits may have
+node_stands : (l : Limits) (before ns : List Node) (rest a : List ℕ) → AllByRecursion Fits before → AllByRecursion Fits ns
+    → AllByRecursion (IsAllowed l) ns → length before < length ns → tree_text before ++ rest ≡ tree_text ns ++ a → BeginsNoAllowed l rest → ⊥
+node_stands l before [] rest a f g h few e none = absurd (omega (arith, few))
+node_stands l [] (n ∷ ns) rest a f g h few e none = none n (tree_text ns ++ a) g.0 h.0 (e ∙ text_cons n ns a)
+node_stands l (m ∷ ms) (n ∷ ns) rest a f g h few e none =
     let first = first_once m n (tree_text ms ++ rest) (tree_text ns ++ a) f.0 g.0 (sym (text_cons m ms rest) ∙ (e ∙ text_cons n ns a)) in
-    node_stands ms ns rest a f.1 g.1 (omega (arith, few)) first.1 none
+    node_stands l ms ns rest a f.1 g.1 h.1 (omega (arith, few)) first.1 none
 
-one_bad_node : (count : ℕ) (text : List ℕ) (m n : ℕ) → IsBadNode count text m → IsBadNode count text n → m ≡ n
-one_bad_node count text m n b c = by (cases_lt (length b.before) (length c.before))
+one_bad_node : (l : Limits) (count : ℕ) (text : List ℕ) (m n : ℕ) → IsBadNode l count text m → IsBadNode l count text n → m ≡ n
+one_bad_node l count text m n b c = by (cases_lt (length b.before) (length c.before))
   where
     same : length b.before ≡ length c.before → m ≡ n
     same long = b.numbered ∙ (ap (λ (k : ℕ). k + 1) long ∙ sym c.numbered)
 
     by_other : length c.before ≤ length b.before → (length c.before < length b.before) ⊎ (length b.before ≤ length c.before) → m ≡ n
-    by_other h (inl k) = absurd (node_stands c.before b.before c.rest b.rest (recursion_from_All Fits c.before c.fit)
-        (recursion_from_All Fits b.before b.fit) k (sym c.whole ∙ b.whole) c.is_bad)
+    by_other h (inl k) = absurd (node_stands l c.before b.before c.rest b.rest (recursion_from_All Fits c.before c.fit)
+        (recursion_from_All Fits b.before b.fit) (recursion_from_All (IsAllowed l) b.before b.allowed) k (sym c.whole ∙ b.whole) c.is_bad)
     by_other h (inr k) = same (omega (arith, h, k))
 
     by : (length b.before < length c.before) ⊎ (length c.before ≤ length b.before) → m ≡ n
-    by (inl h) = absurd (node_stands b.before c.before b.rest c.rest (recursion_from_All Fits b.before b.fit)
-        (recursion_from_All Fits c.before c.fit) h (sym b.whole ∙ c.whole) b.is_bad)
+    by (inl h) = absurd (node_stands l b.before c.before b.rest c.rest (recursion_from_All Fits b.before b.fit)
+        (recursion_from_All Fits c.before c.fit) (recursion_from_All (IsAllowed l) c.before c.allowed) h (sym b.whole ∙ c.whole) b.is_bad)
     by (inr h) = by_other h (cases_lt (length c.before) (length b.before))
 
 pub one_end : (text : List ℕ) (m n : ℕ) → InEnd text m → InEnd text n → m ≡ n
 one_end = one_line IsPlain end_text (λ v. InNothing) end_once (λ v rest m n b c. b.1 ∙ sym c.1)
 
-one_nodes : (count : ℕ) (text : List ℕ) (m n : ℕ) → InNodes count text m → InNodes count text n → m ≡ n
-one_nodes count text m n (inl b) (inl c) = one_bad_node count text m n b c
-one_nodes count text m n (inl b) (inr c) = absurd (no_bad_node count c.value c.rest text m c.is_good c.whole b)
-one_nodes count text m n (inr b) (inl c) = absurd (no_bad_node count b.value b.rest text n b.is_good b.whole c)
-one_nodes count text m n (inr b) (inr c) =
-    one_behind (AreNodes count) tree_text length (λ ns. InEnd) (tree_once count) (λ v. one_end) text m n b c
+one_nodes : (l : Limits) (count : ℕ) (text : List ℕ) (m n : ℕ) → InNodes l count text m → InNodes l count text n → m ≡ n
+one_nodes l count text m n (inl b) (inl c) = one_bad_node l count text m n b c
+one_nodes l count text m n (inl b) (inr c) = absurd (no_bad_node l count c.value c.rest text m c.is_good c.whole b)
+one_nodes l count text m n (inr b) (inl c) = absurd (no_bad_node l count b.value b.rest text n b.is_good b.whole c)
+one_nodes l count text m n (inr b) (inr c) =
+    one_behind (AreNodes l count) tree_text length (λ ns. InEnd) (tree_once l count) (λ v. one_end) text m n b c
 
 one_tree : (l : Limits) → AreSmall l → (text : List ℕ) (m n : ℕ) → InTree l text m → InTree l text n → m ≡ n
 one_tree l small =
     let most = small.lines in
-    one_line (AreFewLines l) tree_head InNodes (number_line_once (codes "tree ") 1 l.lines (omega (arith, most))) one_nodes
+    one_line (AreFewLines l) tree_head (InNodes l) (number_line_once (codes "tree ") 1 l.lines (omega (arith, most))) (one_nodes l)
 
 -- ---- the solution
 
@@ -189,7 +189,7 @@ one_report_line =
 pub report_not_bad : (text : List ℕ) (r : Report) (line : ℕ) → IsReportRead text r → IsFirstBad text line → ⊥
 report_not_bad text r line h bad =
     text_is_good text r.version r.name r.options r.nodes r.answer (length r.tree.nodes.items) r.tree.nodes.items line
-    (report_parts text r h.is_report h.spelled) (refl, h.is_report.fit) bad
+    (report_parts text r h.is_report h.spelled) (refl, h.is_report.fit, h.is_report.allowed) bad
 
 -- ---- the numbers of a solution alone
 

@@ -19,11 +19,13 @@ use Rattle.un_problem.specs.Problems.{IsExtOf, IsModelOf, IsProblemOf}
 use Rattle.un_problem.proofs.ProblemLaws.{table_is}
 use Rattle.un_reader.specs.Read.{IsRead}
 use Rattle.un_merges.specs.Merges.{HasNoMerge}
-use Rattle.un_tree.specs.Waits.{IsOdd, visits_of}
+use Rattle.un_tree.proofs.PlainLaws.{plain_outer}
+use Rattle.un_tree.specs.Waits.{IsOdd, outer_count}
 use Rattle.un_tree.specs.declared.node.Node.{Node}
 use Rattle.un_tree.specs.declared.node.Node.TheVariants.{Open}
 use Rattle.un_certificate.specs.Bounds.{IsBound}
 use Rattle.un_certificate.specs.Certificates.{IsCertificate}
+use Rattle.un_certificate.specs.Joints.{blocks_of, visits_in}
 use Rattle.un_model.specs.Boxes.{root_of}
 use Rattle.un_certificate.proofs.Lows.{standing}
 use Rattle.un_certificate.proofs.Numbers.{plain_one}
@@ -39,13 +41,17 @@ use Rattle.un_search.specs.declared.solve.Answer.TheVariants.{Code as Solved, In
 use Rattle.un_top.specs.Reports.{IsGoodAnswer, IsCodeWithin, UsesRoom, IsSearchOf, IsSearchText, IsReportOf}
 use Rattle.un_top.specs.Searches.{IsStartOf, IsNoWorse, IsAnswerOf, IsReported}
 
+-- the nodes of a search's tree are outer ones
+pub all_outer : (m : Model) (limit : Option ℕ) (t : List Node) → IsCertificate m limit t → outer_count (visits_in m t) ≡ length t
+all_outer m limit t h = plain_outer (blocks_of m) (root_of m) t h.tree.plain h.tree.whole
+
 -- what a search says of its answer
 pub record IsSolved (m : Model) (start : Option Solution) (nodes : ℕ) (a : Answer) : Type 0 where
   pub solution : OnCode (λ s cost bound t. IsSolution m s × (cost ≡ cost_of m s)) a
   pub no_dearer : OnCode (λ s cost bound t. IfSome start (λ x. cost ≤ cost_of m x)) a
   pub tight : 3 ≤ nodes → OnCode (λ s cost bound t. HasNoMerge m s) a
   pub tree : OnCode (λ s cost bound t. IsEnded m (Some cost) nodes t) a
-  pub bound : OnCode (λ s cost bound t. IsBound m cost (visits_of (root_of m) t) bound) a
+  pub bound : OnCode (λ s cost bound t. IsBound m cost (visits_in m t) bound) a
   pub least : OnCode (λ s cost bound t. (x : Solution) → IsSolution m x → bound ≤ cost_of m x) a
   pub equal : OnCode (λ s cost bound t. All (λ n. n ≢ Open) t → bound ≡ cost) a
   pub started : OnOther (start ≡ None) a
@@ -69,7 +75,7 @@ moved P c cost b bound x s u t pc pb px pu h =
     (subst (λ (y : Solution). P cost bound y u) (sym px) (subst (λ (v : List Node). P cost bound s v) (sym pu) h)))
 
 -- the bound is no less than the plain one
-plain_within : (m : Model) (c bound : ℕ) (t : List Node) → IsBound m c (visits_of (root_of m) t) bound → (n : ℕ) → IsPlainBound m n
+plain_within : (m : Model) (c bound : ℕ) (t : List Node) → IsBound m c (visits_in m t) bound → (n : ℕ) → IsPlainBound m n
     → n ≤ bound
 plain_within m c bound t b n is = let same = plain_one m n b.plain is b.is_plain in let e = b.greatest in omega (arith, same, e)
 
@@ -156,7 +162,8 @@ module _ (f : Function) (m : Model) (p : IsProblemOf f m) (nodes : ℕ) (start :
       let q = parts a r.answer r.tree.nodes.items h w.answer in
       let sound : IsSoundFor m f r = record {
         named = w.named;
-        used = λ some. subst (IsOdd (length r.tree.nodes.items)) (sym w.budget) (q.used some);
+        used = λ some. subst (λ (n : ℕ). IsOdd n r.nodes) (sym (all_outer m (limit_of r.answer) r.tree.nodes.items q.searched))
+            (subst (IsOdd (length r.tree.nodes.items)) (sym w.budget) (q.used some));
         answer = q.sound;
       } in
       record {

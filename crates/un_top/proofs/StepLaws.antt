@@ -1,5 +1,9 @@
 -- The log of a report's tree, and the check of a log: two texts have one accepted report, with one model, and so one answer.
-use Rattle.std.proofs.Common.{ℕ, ◌≡◌, ◌≤◌, ◌⊎◌, inl, inr, Bool, List, IfOk, codes, length, refl, sym, ap, subst, ◌∙◌}
+use Rattle.std.proofs.Common.{ℕ, zero, suc, ◌≡◌, ◌<◌, ◌≤◌, ◌⊎◌, inl, inr, All, Bool, List, [], ◌∷◌, Some, IfOk, codes, length, take, refl, sym, ap, subst, ◌∙◌, arith}
+use Rattle.std.specs.Prelude.{slice_get}
+use Rattle.std.specs.List.{AllByRecursion}
+use Rattle.std.proofs.lemmas.Bool.{cases_lt}
+use Rattle.std.proofs.lemmas.List.Elements.{recursion_from_All}
 use Rattle.std.specs.declared.option.Option.{Option}
 use Rattle.std.specs.declared.result.Result.{Result}
 use Rattle.std.specs.declared.result.Result.TheVariants.{Ok, Err}
@@ -11,12 +15,12 @@ use Rattle.un_check.specs.Causes.{Claim, IsRight, IsTold, claim_of, limit_of}
 use Rattle.un_ir.specs.declared.function.Function.{Function}
 use Rattle.un_isa.specs.Versions.{table_of}
 use Rattle.un_judge.proofs.Comings.{comes_once}
-use Rattle.un_judge.specs.Judged.{IsJudged, closed_boxes}
+use Rattle.un_judge.specs.Judged.{IsJudged, OnYes, closed_boxes}
 use Rattle.un_judge.specs.declared.verdict.StepVerdict.{StepVerdict}
 use Rattle.un_judge.specs.declared.verdict.StepVerdict.TheVariants.{Yes, BadStep, Short}
 use Rattle.un_logs.proofs.Walking.{stuck_once as one_stuck}
 use Rattle.un_logs.specs.Stuck.{IsFirstStuck}
-use Rattle.un_model.specs.Boxes.{root_of}
+use Rattle.un_model.specs.Boxes.{IsBelow, root_of}
 use Rattle.un_model.specs.declared.model.Model.{Model}
 use Rattle.un_model.specs.declared.model.Options.{Options}
 use Rattle.un_outside.specs.declared.status.NoCause.{NoCause}
@@ -40,10 +44,17 @@ use Rattle.un_top.specs.Checks.{RefusesReport, no_line}
 use Rattle.un_top.specs.Runs.{IsLate, RefusesText, status_by}
 use Rattle.un_top.specs.Steps.{AreRead, IsAccepted, IsRefused, HasAccepted, IsRejected, IsLogged, IsLogOf, IsLogAccepted, IsLogTold, IsBadBehind}
 use Rattle.un_top.specs.Steps.{ComesTo, IsStuckAt, IsLog, IsBadAt, HasNoLog, HasBadLog, IsLateBy, IsLateLog, IsLateTold, rules_by}
-use Rattle.un_top.specs.Steps.{IsGoodLog, IsWithoutLog, IsNotGood, RefusesBy}
+use Rattle.un_top.specs.Steps.{HasNoSplit, HasSplit, IsBadLog, IsGoodLog, IsLogless, IsWithoutLog, IsNotGood, RefusesBy}
 use Rattle.un_top.specs.declared.limits.TheConstants.{INPUT}
 use Rattle.un_top.specs.declared.output.Output.{Output}
+use Rattle.un_certificate.specs.Joints.{blocks_of, visits_in}
+use Rattle.un_post.specs.PartPosts.{IsPartBelow}
+use Rattle.un_tree.proofs.PlainLaws.{plain_stands}
+use Rattle.un_tree.specs.Covered.{OuterStands}
+use Rattle.un_tree.specs.Splits.{IsFirstSplit}
+use Rattle.un_tree.specs.Waits.{IsPlain}
 use Rattle.un_tree.specs.declared.node.Node.{Node}
+use Rattle.un_tree.specs.declared.node.Node.TheVariants.{Split}
 
 -- ---- an answer to one report is that to the same report
 
@@ -78,6 +89,41 @@ line_once : (log : List ℕ) (v : StepVerdict) (m n : ℕ) → IsBadAt log v m �
 line_once log Yes m n a b = absurd a
 line_once log (BadStep k) m n a b = a ∙ sym b
 line_once log Short m n a b = a ∙ sym b
+
+-- ---- a tree gives no log at one node at most
+
+-- a Split is no node of a tree that has none
+pub split_there : (nodes : List Node) (i : ℕ) → HasNoSplit nodes → IsFirstSplit nodes i → ⊥
+split_there nodes i none h = by nodes i (recursion_from_All (λ (n : Node). n ≡ Split → ⊥) nodes none) h.here
+  where
+    by : (ns : List Node) (k : ℕ) → AllByRecursion (λ (n : Node). n ≡ Split → ⊥) ns → slice_get ns k ≡ Some Split → ⊥
+    by [] k none e = cc e
+    by (n ∷ ns) zero none e = none.0 (cc e)
+    by (n ∷ ns) (suc k) none e = by ns k none.1 e
+
+-- a node before the first Split is none
+before_split : (nodes : List Node) (i j : ℕ) → i < j → AllByRecursion (λ (n : Node). n ≡ Split → ⊥) (take j nodes)
+    → slice_get nodes i ≡ Some Split → ⊥
+before_split [] i j lt none e = cc e
+before_split (n ∷ ns) i zero lt none e = omega (arith, lt)
+before_split (n ∷ ns) zero (suc j) lt none e = none.0 (cc e)
+before_split (n ∷ ns) (suc i) (suc j) lt none e = before_split ns i j (omega (arith, lt)) none.1 e
+
+pub split_once : (nodes : List Node) (i j : ℕ) → IsFirstSplit nodes i → IsFirstSplit nodes j → i ≡ j
+split_once nodes i j h k = elim (cases_lt i j) [
+  | inl less ↦ absurd (before_split nodes i j less (recursion_from_All (λ (n : Node). n ≡ Split → ⊥) (take j nodes) k.none) h.here)
+  | inr ge ↦ elim (cases_lt j i) [
+    | inl less ↦ absurd (before_split nodes j i less (recursion_from_All (λ (n : Node). n ≡ Split → ⊥) (take i nodes) h.none) k.here)
+    | inr le ↦ omega (arith, ge, le)
+  ]
+]
+
+logless_once : (rules : ℕ) (m : Model) (limit : Option ℕ) (nodes : List Node) (i j : ℕ) → IsLogless rules m limit nodes i
+    → IsLogless rules m limit nodes j → i ≡ j
+logless_once rules m limit nodes i j (inl a) (inl b) = split_once nodes i j a b
+logless_once rules m limit nodes i j (inl a) (inr b) = absurd (split_there nodes i b.whole a)
+logless_once rules m limit nodes i j (inr a) (inl b) = absurd (split_there nodes j a.whole b)
+logless_once rules m limit nodes i j (inr a) (inr b) = one_stuck rules m limit nodes i j a.stuck b.stuck
 
 -- ---- two texts are those of one function and one report
 
@@ -119,22 +165,40 @@ module _ (first second : List ℕ) where
   -- so its tree is stuck at one node at most
   stuck_once : (counts : Bool) (m n : ℕ) → HasNoLog counts first second m → HasNoLog counts first second n → m ≡ n
   stuck_once counts m n h k =
-      one_stuck (rules_by counts) h.has.model (limit_of h.has.report.answer) h.has.report.tree.nodes.items m n h.stuck
-      (by_other (λ (w : Model) (limit : Option ℕ) (t : List Node). IsFirstStuck (rules_by counts) w limit t n) h.has k.has k.stuck)
+      logless_once (rules_by counts) h.has.model (limit_of h.has.report.answer) h.has.report.tree.nodes.items m n h.stuck
+      (by_other (λ (w : Model) (limit : Option ℕ) (t : List Node). IsLogless (rules_by counts) w limit t n) h.has k.has k.stuck)
 
   pub log_not_stuck : (counts : Bool) (node : ℕ) (status : Status) (out : List ℕ) → IsLogOf counts first second status out
       → HasNoLog counts first second node → ⊥
   log_not_stuck counts node status out (inl rejected) h = rejected_not h.has status out rejected
   log_not_stuck counts node status out (inr logged) h =
       logged.log.free node
-      (by_other (λ (w : Model) (limit : Option ℕ) (t : List Node). IsFirstStuck (rules_by counts) w limit t node) logged.has h.has h.stuck)
+      (by_other (λ (w : Model) (limit : Option ℕ) (t : List Node). IsLogless (rules_by counts) w limit t node) logged.has h.has h.stuck)
+
+  -- it has one first Split, and where it has one a log is not bad
+  one_split : (m n : ℕ) → HasSplit first second m → HasSplit first second n → m ≡ n
+  one_split m n h k =
+      split_once h.has.report.tree.nodes.items m n h.split
+      (by_other (λ (w : Model) (limit : Option ℕ) (t : List Node). IsFirstSplit t n) h.has k.has k.split)
+
+  split_not_bad : (counts : Bool) (log : List ℕ) (i line : ℕ) → HasSplit first second i → HasBadLog counts first second log line → ⊥
+  split_not_bad counts log i line h k =
+      split_there h.has.report.tree.nodes.items i
+      (by_other (λ (w : Model) (limit : Option ℕ) (t : List Node). HasNoSplit t) h.has k.has k.bad.whole) h.split
+
+  pub told_not_split : (counts : Bool) (log : List ℕ) (i : ℕ) (status : Status) (out : List ℕ)
+      → IsLogTold counts first second log status out → HasSplit first second i → ⊥
+  told_not_split counts log i status out (inl rejected) h = rejected_not h.has status out rejected
+  told_not_split counts log i status out (inr told) h =
+      split_there h.has.report.tree.nodes.items i
+      (by_other (λ (w : Model) (limit : Option ℕ) (t : List Node). HasNoSplit t) h.has told.has told.good.whole) h.split
 
   -- and a log comes to one verdict
   bad_once : (counts : Bool) (log : List ℕ) (m n : ℕ) → HasBadLog counts first second log m → HasBadLog counts first second log n → m ≡ n
   bad_once counts log m n h k =
       let other = by_other (λ (w : Model) (limit : Option ℕ) (t : List Node). IsJudged (rules_by counts) w limit t log k.bad.verdict) h.has k.has k.bad.comes in
       let same = comes_once (rules_by counts) h.has.model (limit_of h.has.report.answer) 1
-      (closed_boxes (root_of h.has.model) h.has.report.tree.nodes.items) (pieces_of log) k.bad.verdict h.bad.verdict other h.bad.comes in
+      (closed_boxes (blocks_of h.has.model) (root_of h.has.model) h.has.report.tree.nodes.items) (pieces_of log) k.bad.verdict h.bad.verdict other h.bad.comes in
       line_once log h.bad.verdict m n h.bad.at (subst (λ (v : StepVerdict). IsBadAt log v n) same k.bad.at)
 
   pub log_not_bad : (counts : Bool) (log : List ℕ) (line : ℕ) (status : Status) (out : List ℕ) → IsLogTold counts first second log status out
@@ -143,7 +207,7 @@ module _ (first second : List ℕ) where
   log_not_bad counts log line status out (inr told) h =
       let other = by_other (λ (w : Model) (limit : Option ℕ) (t : List Node). IsJudged (rules_by counts) w limit t log Yes) h.has told.has told.good.yes in
       let same = comes_once (rules_by counts) h.has.model (limit_of h.has.report.answer) 1
-      (closed_boxes (root_of h.has.model) h.has.report.tree.nodes.items) (pieces_of log) h.bad.verdict Yes h.bad.comes other in
+      (closed_boxes (blocks_of h.has.model) (root_of h.has.model) h.has.report.tree.nodes.items) (pieces_of log) h.bad.verdict Yes h.bad.comes other in
       subst (λ (v : StepVerdict). IsBadAt log v line) same h.bad.at
 
   -- ---- late answers
@@ -249,20 +313,23 @@ module _ (counts : Bool) (first second : List ℕ) where
     told_read status out (inr h) = (h.has.function, h.has.read.function)
 
     pub told_late_read : (status : Status) → IsLateTold counts first second log status → HasRead first
-    told_late_read status h = late_any _ _ _ (λ s. HasRead first) status (λ n k. (k.function, k.read)) (λ i k. absurd k)
-        (λ n k. (k.has.function, k.has.read.function)) h
+    told_late_read status h = late_any _ _ _ (λ s. HasRead first) status (λ n k. (k.function, k.read))
+        (λ i k. (k.has.function, k.has.read.function)) (λ n k. (k.has.function, k.has.read.function)) h
 
     pub told_is_late : (status : Status) → IsLateTold counts first second log status → IsLate status
     told_is_late status h = late_any _ _ _ IsLate status (λ n k. tt) (λ i k. tt) (λ n k. tt) h
 
     pub told_late_once : (s t : Status) → IsLateTold counts first second log s → IsLateTold counts first second log t → s ≡ t
     told_late_once s t h k =
-        late_once _ _ _ s t (behind_once first second) (λ m n a b. absurd a) (bad_once first second counts log) (λ n i a b. b)
-        (λ n k a b. good_behind first second b.has.function b.has.report n b.has.read a) (λ i k a b. a) h k
+        late_once _ _ _ s t (behind_once first second) (one_split first second) (bad_once first second counts log)
+        (λ n i a b. good_behind first second b.has.function b.has.report n b.has.read a)
+        (λ n k a b. good_behind first second b.has.function b.has.report n b.has.read a)
+        (λ i k a b. split_not_bad first second counts log i k a b) h k
 
     pub told_not_late : (status : Status) (out : List ℕ) (late : Status) → IsLogTold counts first second log status out
         → IsLateTold counts first second log late → ⊥
-    told_not_late status out late h k = late_any _ _ _ (λ s. ⊥) late (no_line h) (λ i b. b)
+    told_not_late status out late h k = late_any _ _ _ (λ s. ⊥) late (no_line h)
+        (λ i b. told_not_split first second counts log i status out h b)
         (λ n b. log_not_bad first second counts log n status out h b) k
       where
         no_line : IsLogTold counts first second log status out → (n : ℕ) → IsBadBehind first second n → ⊥
@@ -271,7 +338,7 @@ module _ (counts : Bool) (first second : List ℕ) where
 
     pub told_good_late : (f : Function) (r : Report) (late : Status) → AreRead first second f r → IsLateTold counts first second log late
         → IsJudgeEnd late
-    told_good_late f r late read k = late_any _ _ _ IsJudgeEnd late (λ n b. absurd (good_behind first second f r n read b)) (λ i b. absurd b)
+    told_good_late f r late read k = late_any _ _ _ IsJudgeEnd late (λ n b. absurd (good_behind first second f r n read b)) (λ i b. tt)
         (λ n b. tt) k
 
     pub told_ends : (status : Status) (out : List ℕ) → IsLogTold counts first second log status out → EndsCheck status
@@ -296,7 +363,8 @@ module _ (counts : Bool) (m : Model) (r : Report) (limit : Option ℕ) (rules : 
       subst (λ (l : Option ℕ). IsJudged (rules_by counts) m l r.tree.nodes.items log v) same_limit
       (subst (λ (k : ℕ). IsJudged k m limit r.tree.nodes.items log v) same_rules h)
 
-  by_stuck : (i : ℕ) → IsStuckAt counts m r i → IsFirstStuck rules m limit r.tree.nodes.items i
+  by_stuck : (i : ℕ) → IsFirstStuck (rules_by counts) m (limit_of r.answer) r.tree.nodes.items i
+      → IsFirstStuck rules m limit r.tree.nodes.items i
   by_stuck i h =
       subst (λ (k : ℕ). IsFirstStuck k m limit r.tree.nodes.items i) (sym same_rules)
       (subst (λ (l : Option ℕ). IsFirstStuck (rules_by counts) m l r.tree.nodes.items i) (sym same_limit) h)
@@ -304,12 +372,60 @@ module _ (counts : Bool) (m : Model) (r : Report) (limit : Option ℕ) (rules : 
   -- a log
   pub log_made : {A : Type 0} (items : A → List ℕ) (told : Result A ℕ) (a : A) (out : List ℕ) → told ≡ Ok a
       → IfOk told (λ x. IsJudged rules m limit r.tree.nodes.items (items x) Yes)
-      → ((i : ℕ) → IsFirstStuck rules m limit r.tree.nodes.items i → told ≡ Err i) → out ≡ items a → IsLog counts m r out
-  log_made {A} items told a out is log exactly same = record {
+      → ((i : ℕ) → IsFirstStuck rules m limit r.tree.nodes.items i → told ≡ Err i) → out ≡ items a → HasNoSplit r.tree.nodes.items
+      → IsLog counts m r out
+  log_made {A} items told a out is log exactly same whole = record {
     yes = subst (λ (x : List ℕ). ComesTo counts m r x Yes) (sym same) (comes (items a) Yes
         (subst (λ (t : Result A ℕ). IfOk t (λ x. IsJudged rules m limit r.tree.nodes.items (items x) Yes)) is log));
-    free = λ node h. cc (sym is ∙ exactly node (by_stuck node h));
+    free = free;
   }
+    where
+      free : (node : ℕ) → IsStuckAt counts m r node → ⊥
+      free node (inl split) = split_there r.tree.nodes.items node whole split
+      free node (inr h) = cc (sym is ∙ exactly node (by_stuck node h.stuck))
+
+  -- a leaf that gives none
+  pub log_stuck : (i : ℕ) → HasNoSplit r.tree.nodes.items → IsFirstStuck rules m limit r.tree.nodes.items i → IsStuckAt counts m r i
+  log_stuck i whole h = inr (record {
+    whole = whole;
+    stuck = subst (λ (l : Option ℕ). IsFirstStuck (rules_by counts) m l r.tree.nodes.items i) same_limit
+        (subst (λ (k : ℕ). IsFirstStuck k m limit r.tree.nodes.items i) same_rules h);
+  })
+
+  -- a good log
+  pub good_made : (log : List ℕ) (v : StepVerdict) → v ≡ Yes → HasNoSplit r.tree.nodes.items → All IsPlain r.tree.nodes.items
+      → IsJudged rules m limit r.tree.nodes.items log v → OnYes (All (OuterStands (IsBelow m limit)) (visits_in m r.tree.nodes.items)) v
+      → IsGoodLog counts m r log
+  good_made log v is whole plain judged stands = record {
+    whole = whole;
+    yes = subst (ComesTo counts m r log) is (comes log v judged);
+    stands = plain_stands (blocks_of m) (root_of m) r.tree.nodes.items plain (IsBelow m (limit_of r.answer)) (IsPartBelow m)
+        (subst (λ (l : Option ℕ). All (OuterStands (IsBelow m l)) (visits_in m r.tree.nodes.items)) same_limit
+        (subst (OnYes (All (OuterStands (IsBelow m limit)) (visits_in m r.tree.nodes.items))) is stands));
+  }
+
+  -- a bad one
+  pub bad_made : (log : List ℕ) (v : StepVerdict) (line : ℕ) → HasNoSplit r.tree.nodes.items
+      → IsJudged rules m limit r.tree.nodes.items log v → IsBadAt log v line → IsBadLog counts m r log line
+  bad_made log v line whole judged at = record { whole = whole; verdict = v; comes = comes log v judged; at = at }
+
+-- what is so is so of what there is
+pub if_made : {A : Type 0} (P : Type 0) (result : Result A Status) → P → IfOk result (λ out. P)
+if_made P (Ok out) h = h
+if_made P (Err s) h = tt
+
+-- a Split, which has no log
+pub split_refused : (counts : Bool) (m : Model) (r : Report) (nodes : List Node) (place : ℕ) (s : Status) → nodes ≡ r.tree.nodes.items
+    → IsFirstSplit nodes place → (s ≡ NoMemory) ⊎ (s ≡ NoLog place) → IsWithoutLog counts m r s
+split_refused counts m r nodes place s same split (inl e) = subst (IsWithoutLog counts m r) (sym e) tt
+split_refused counts m r nodes place s same split (inr e) =
+    subst (IsWithoutLog counts m r) (sym e) (inl (subst (λ (t : List Node). IsFirstSplit t place) same split))
+
+pub split_not_good : (counts : Bool) (m : Model) (r : Report) (log : List ℕ) (nodes : List Node) (place : ℕ) (s : Status)
+    → nodes ≡ r.tree.nodes.items → IsFirstSplit nodes place → (s ≡ NoMemory) ⊎ (s ≡ NoLog place) → IsNotGood counts m r log s
+split_not_good counts m r log nodes place s same split (inl e) = subst (IsNotGood counts m r log) (sym e) tt
+split_not_good counts m r log nodes place s same split (inr e) =
+    subst (IsNotGood counts m r log) (sym e) (subst (λ (t : List Node). IsFirstSplit t place) same split)
 
 -- ---- parts of an input
 
@@ -337,7 +453,7 @@ told_parts : (counts : Bool) (input : List ℕ) (s : Status) → length input �
 told_parts counts input NoMemory few h = tt
 told_parts counts input (TextFault line code) few h = inr (few, h)
 told_parts counts input (BadReport line) few h = (few, h)
-told_parts counts input (NoLog node) few h = absurd h
+told_parts counts input (NoLog node) few h = (few, h)
 told_parts counts input (BadSteps line) few h = (few, h)
 told_parts counts input Done few h = absurd h
 told_parts counts input Infeasible few h = absurd h
@@ -449,7 +565,8 @@ module _ (counts : Bool) (first second : List ℕ) where
           record { has = record { function = f; report = r; read = read; model = m; accepted = h }; bad = w }
       not_good m (Err (TextFault line code)) h w = absurd w
       not_good m (Err (BadReport line)) h w = absurd w
-      not_good m (Err (NoLog node)) h w = absurd w
+      not_good m (Err (NoLog node)) h w =
+          record { has = record { function = f; report = r; read = read; model = m; accepted = h }; split = w }
       not_good m (Err Done) h w = absurd w
       not_good m (Err Infeasible) h w = absurd w
       not_good m (Err Spent) h w = absurd w

@@ -6,7 +6,7 @@ use Rattle.std.proofs.Math.Logic.{∥∥₁_elim}
 use Rattle.std.proofs.Math.Bridge.{le_prop}
 use Rattle.std.proofs.Props.{props}
 use Rattle.std.proofs.lemmas.List.{length-append, length-map}
-use Rattle.std.proofs.lemmas.List.Elements.{All-from_recursion, recursion_from_All}
+use Rattle.std.proofs.lemmas.List.Elements.{All-from_recursion, All-weaker, recursion_from_All}
 use Rattle.std.proofs.lemmas.List.Sums.{sum_by-cons}
 use Rattle.un_base.specs.Names.{is_name}
 use Rattle.un_commands.specs.Settings.{IsCountOfNodes}
@@ -44,11 +44,12 @@ use Rattle.un_domains.specs.declared.side.Side.{Side}
 use Rattle.un_domains.specs.declared.side.Side.TheVariants.{AtMost, Above}
 use Rattle.un_tree.specs.Boxes.{half}
 use Rattle.un_tree.specs.Texts.{Fits}
-use Rattle.un_tree.specs.Waits.{Waiting, Whole, visits, visits_of, IsWhole, IsStrict}
+use Rattle.un_tree.specs.Waits.{Waiting, Whole, Begins, Inside, visits, HasSides, IsPlain, IsWhole}
 use Rattle.un_tree.specs.declared.node.Node.{Node}
-use Rattle.un_tree.specs.declared.node.Node.TheVariants.{Branch, Closed, Open}
+use Rattle.un_tree.specs.declared.node.Node.TheVariants.{Branch, Closed, Open, Split, Part}
 use Rattle.un_base.specs.declared.ids.VarId.{VarId}
-use Rattle.un_certificate.specs.Certificates.{IsStanding}
+use Rattle.un_certificate.specs.Certificates.{IsCertificate}
+use Rattle.un_certificate.specs.Joints.{blocks_of, visits_in}
 use Rattle.un_model.specs.Boxes.{root_of}
 use Rattle.un_check.specs.Sound.{IsSoundAnswer, IsSoundFor}
 use Rattle.un_check.specs.Causes.{limit_of}
@@ -56,7 +57,7 @@ use Rattle.un_report.specs.declared.report.Answered.{Answered}
 use Rattle.un_report.specs.declared.report.Answered.TheVariants.{Code, Infeasible, Spent}
 use Rattle.un_report.specs.declared.report.Report.{Report}
 use Rattle.un_report_reader.specs.Answers.{IsAnswer, IsListed, AreValues}
-use Rattle.un_report_reader.specs.Limits.{AreWithin, AreFewLines, limits_of}
+use Rattle.un_report_reader.specs.Limits.{AreWithin, AreFewLines, IsAllowed, limits_of}
 use Rattle.un_report_reader.specs.Lines.{IsShort}
 use Rattle.un_report_reader.specs.Readings.{IsReport}
 use Rattle.un_top.specs.Searches.{AreLong}
@@ -157,6 +158,8 @@ record IsSmall (b : Sets) : Type 0 where
 abbrev AllSmall : List Waiting → Type 0
 AllSmall [] = Unit {0}
 AllSmall (Whole b ∷ ws) = IsSmall b × AllSmall ws
+AllSmall (Begins k b ∷ ws) = ⊥
+AllSmall (Inside k number b ∷ ws) = ⊥
 
 half_small : (b : Sets) (v : VarId) (x : ℕ) (side : Side) → v.0 < length b → IsSmall b → IsSmall (half b v x side)
 half_small b v x side there h =
@@ -166,21 +169,28 @@ half_small b v x side there h =
       low = λ w. (let le = greatest_below (half b v x side) b w below in let low = h.low w in omega (arith, le, low));
     }
 
-nodes_fit : (nodes : List Node) (ws : List Waiting) (i : ℕ) → IsWhole nodes ws → AllByRecursion IsStrict (visits i nodes ws) → AllSmall ws
-    → AllByRecursion Fits nodes
-nodes_fit [] ws i whole strict small = tt
-nodes_fit (n ∷ nodes) [] i whole strict small = absurd whole
-nodes_fit (Branch v x ∷ nodes) (Whole b ∷ ws) i whole strict small =
+-- in a tree without parts
+nodes_fit : (blocks : ℕ) (nodes : List Node) (ws : List Waiting) (i : ℕ) → AllByRecursion IsPlain nodes → IsWhole blocks nodes ws
+    → AllByRecursion HasSides (visits blocks i nodes ws) → AllSmall ws → AllByRecursion Fits nodes
+nodes_fit blocks [] ws i plain whole strict small = tt
+nodes_fit blocks (n ∷ nodes) [] i plain whole strict small = absurd whole
+nodes_fit blocks (n ∷ nodes) (Begins k b ∷ ws) i plain whole strict small = absurd small
+nodes_fit blocks (n ∷ nodes) (Inside k number b ∷ ws) i plain whole strict small = absurd small
+nodes_fit blocks (Branch v x ∷ nodes) (Whole b ∷ ws) i plain whole strict small =
     let there = strict.0.0 in
     let above = strict.0.2 in
     let few = small.0.few in
     let low = small.0.low v.0 in (
       (omega (arith, there, few), omega (arith, above, low)),
-      nodes_fit nodes (Whole (half b v x AtMost) ∷ Whole (half b v x Above) ∷ ws) (i + 1) whole strict.1
+      nodes_fit blocks nodes (Whole (half b v x AtMost) ∷ Whole (half b v x Above) ∷ ws) (i + 1) plain.1 whole strict.1
           (half_small b v x AtMost there small.0, (half_small b v x Above there small.0, small.1)),
     )
-nodes_fit (Closed ∷ nodes) (Whole b ∷ ws) i whole strict small = (tt, nodes_fit nodes ws (i + 1) whole strict.1 small.1)
-nodes_fit (Open ∷ nodes) (Whole b ∷ ws) i whole strict small = (tt, nodes_fit nodes ws (i + 1) whole strict.1 small.1)
+nodes_fit blocks (Closed ∷ nodes) (Whole b ∷ ws) i plain whole strict small =
+    (tt, nodes_fit blocks nodes ws (i + 1) plain.1 whole strict.1 small.1)
+nodes_fit blocks (Open ∷ nodes) (Whole b ∷ ws) i plain whole strict small =
+    (tt, nodes_fit blocks nodes ws (i + 1) plain.1 whole strict.1 small.1)
+nodes_fit blocks (Split ∷ nodes) (Whole b ∷ ws) i plain whole strict small = absurd plain.0
+nodes_fit blocks (Part number ∷ nodes) (Whole b ∷ ws) i plain whole strict small = absurd plain.0
 
 root_small : (f : Function) (m : Model) → IsProblemOf f m → IsSmall (root_of m)
 root_small f m p = record {
@@ -190,20 +200,15 @@ root_small f m p = record {
       omega (arith, most));
 }
 
-tree_fits : (f : Function) (m : Model) (limit : Option ℕ) (t : List Node) → IsProblemOf f m → IsStanding m limit t → All Fits t
+tree_fits : (f : Function) (m : Model) (limit : Option ℕ) (t : List Node) → IsProblemOf f m → IsCertificate m limit t → All Fits t
 tree_fits f m limit t p h =
-    All-from_recursion Fits t (nodes_fit t (Whole (root_of m) ∷ []) 0 h.whole
-    (recursion_from_All IsStrict (visits_of (root_of m) t) h.strict) (root_small f m p, tt))
+    All-from_recursion Fits t (nodes_fit (blocks_of m) t (Whole (root_of m) ∷ []) 0 (recursion_from_All IsPlain t h.tree.plain) h.tree.whole
+    (recursion_from_All HasSides (visits_in m t) h.tree.strict) (root_small f m p, tt))
 
 -- ---- the report
 
-sound_standing : (m : Model) (t : List Node) (a : Answered) → IsSoundAnswer m t a → IsStanding m (limit_of a) t
-sound_standing m t (Code cost bound code s) h = h.standing
-sound_standing m t Infeasible h = h.standing
-sound_standing m t Spent h = h.standing
-
-some_nodes : (t : List Node) (m : Model) (limit : Option ℕ) → IsStanding m limit t → 1 ≤ length t
-some_nodes [] m limit h = absurd (none h.whole)
+some_nodes : (t : List Node) (m : Model) (limit : Option ℕ) → IsCertificate m limit t → 1 ≤ length t
+some_nodes [] m limit h = absurd (none h.tree.whole)
   where
     none : Whole (root_of m) ∷ [] ≡ [] → ⊥
     none e = cc e
@@ -219,19 +224,20 @@ within_last : (o : Options) → AreOptions o → AreWithin (limits_of LAST) o
 within_last o h = record { regs = h.regs; slots = h.slots }
 
 few_last : (n : ℕ) → IsCountOfNodes n → AreFewLines (limits_of LAST) n
-few_last n h = (h.0, h.1)
+few_last n h = (h.0, (let most = h.1 in omega (arith, most)))
 
 pub is_report : (f : Function) (m : Model) (nodes : ℕ) (r : Report) → IsProblemOf f m → r.version ≡ LAST → r.options ≡ m.options → r.nodes ≡ nodes
-    → IsSoundFor m f r → length r.tree.nodes.items ≤ nodes → AreLong r.answer → IsCountOfNodes nodes → IsReport r
-is_report f m nodes r p versioned chosen budget sound few long count =
+    → IsSoundFor m f r → IsCertificate m (limit_of r.answer) r.tree.nodes.items → length r.tree.nodes.items ≤ nodes → AreLong r.answer
+    → IsCountOfNodes nodes → IsReport r
+is_report f m nodes r p versioned chosen budget sound searched few long count =
     let t = r.tree.nodes.items in
-    let standing = sound_standing m t r.answer sound.answer in
     record {
       version = subst IsVersion (sym versioned) (omega arith, omega arith);
       name = subst (λ (name : List ℕ). is_name name ≡ true) (sym sound.named) (∥∥₁_elim f.well_formed (hlevel props) (λ w. w.named));
       options = rw (versioned, chosen) (within_last m.options p.options);
       nodes = rw budget count;
       answer = rw versioned (answer_fits f m t r.answer p sound.answer long);
-      count = rw versioned (few_last (length t) (some_nodes t m (limit_of r.answer) standing, (let most = count.1 in omega (arith, few, most))));
-      fit = tree_fits f m (limit_of r.answer) t p standing;
+      count = rw versioned (few_last (length t) (some_nodes t m (limit_of r.answer) searched, (let most = count.1 in omega (arith, few, most))));
+      fit = tree_fits f m (limit_of r.answer) t p searched;
+      allowed = All-weaker IsPlain (IsAllowed (limits_of r.version)) (λ n plain none. plain) t searched.tree.plain;
     }

@@ -103,13 +103,14 @@ IsRefuteEnd (Found cost) = Unit {0}
 IsRefuteEnd Cut = Unit {0}
 IsRefuteEnd status = IsDone status
 
--- or a leaf gave no log
+-- or a Split or a leaf gave no log
 abbrev pub IsLogEnd : Status → Type 0
 IsLogEnd (NoLog node) = Unit {0}
 IsLogEnd status = IsChecked status
 
--- or a log was not accepted
+-- or there was a Split, or a log was not accepted
 abbrev pub IsJudgeEnd : Status → Type 0
+IsJudgeEnd (NoLog node) = Unit {0}
 IsJudgeEnd (BadSteps line) = Unit {0}
 IsJudgeEnd status = IsChecked status
 

@@ -10,7 +10,7 @@ use Rattle.un_model.specs.declared.model.Model.{Model}
 use Rattle.un_outside.specs.declared.status.Status.{Status}
 use Rattle.un_outside.specs.declared.status.Status.TheVariants.{Done, No}
 use Rattle.un_outside.specs.declared.status.NoCause.{NoCause}
-use Rattle.un_outside.specs.declared.status.NoCause.TheVariants.{Name, Solution, Cost, Listing, Strict, Alive, Closed, Mirror, Short, Spent, Bound}
+use Rattle.un_outside.specs.declared.status.NoCause.TheVariants.{Name, Solution, Cost, Listing, Strict, Split, Alive, Closed, Mirror, Short, Spent, Bound}
 use Rattle.un_problem.specs.Problems.{IsModelOf}
 use Rattle.un_reader.specs.Read.{IsRead}
 use Rattle.un_report.specs.declared.report.Answered.{Answered}
@@ -47,6 +47,7 @@ no_line (Solution rule) = counted_line (codes "no solution ") rule
 no_line Cost = codes "no cost\n"
 no_line Listing = codes "no listing\n"
 no_line (Strict place) = counted_line (codes "no strict ") place
+no_line (Split place) = counted_line (codes "no split ") place
 no_line (Alive place) = counted_line (codes "no alive ") place
 no_line (Closed place) = counted_line (codes "no closed ") place
 no_line (Mirror place) = counted_line (codes "no mirror ") place

@@ -72,7 +72,7 @@ status_of (Code cost bound code s) = Done
 status_of Infeasible = NoCode
 status_of Spent = NoNodes
 
--- the report of a search of the function's model with so many nodes, in the last version; its tree has no more
+-- the report of a search of the function's model with so many nodes, in the last version; its tree has no parts, and no more nodes
 pub record IsSearchOf (f : Function) (m : Model) (nodes : ℕ) (r : Report) : Type 0 where
   pub versioned : r.version ≡ LAST
   pub chosen : r.options ≡ m.options

@@ -1,5 +1,5 @@
 -- The log of a report's tree, and the check of a log: their inputs, what is put out, and the late answers.
-use Rattle.std.specs.Prelude.{ℕ, ◌≡◌, ◌+◌, ◌≤◌, ◌⊎◌, Bool, true, false, ⊤, List, Err, All, codes, length}
+use Rattle.std.specs.Prelude.{ℕ, ◌≡◌, ◌≢◌, ◌+◌, ◌≤◌, ◌⊎◌, Bool, true, false, ⊤, List, Option, Err, All, codes, length}
 use Rattle.un_base.specs.Lines.{pieces_of}
 use Rattle.un_check.specs.Causes.{IsRight, IsTold, claim_of, limit_of}
 use Rattle.un_ir.specs.declared.function.Function.{Function}
@@ -8,11 +8,13 @@ use Rattle.un_judge.specs.Judged.{IsJudged}
 use Rattle.un_judge.specs.declared.verdict.StepVerdict.{StepVerdict}
 use Rattle.un_judge.specs.declared.verdict.StepVerdict.TheVariants.{Yes, BadStep, Short}
 use Rattle.un_logs.specs.Stuck.{IsFirstStuck}
-use Rattle.un_model.specs.Boxes.{IsBelow, root_of}
+use Rattle.un_certificate.specs.Joints.{visits_in}
+use Rattle.un_model.specs.Boxes.{IsBelow}
 use Rattle.un_model.specs.declared.model.Model.{Model}
 use Rattle.un_outside.specs.declared.status.NoCause.{NoCause}
 use Rattle.un_outside.specs.declared.status.Status.{Status}
 use Rattle.un_outside.specs.declared.status.Status.TheVariants.{Done, TextFault, NoMemory, No, BadReport, NoLog, BadSteps}
+use Rattle.un_post.specs.PartPosts.{IsPartBelow}
 use Rattle.un_problem.specs.Problems.{IsModelOf}
 use Rattle.un_reader.specs.Read.{IsRead}
 use Rattle.un_report.specs.declared.report.Report.{Report}
@@ -24,7 +26,9 @@ use Rattle.un_steps.specs.declared.step.TheConstants.{PLAIN_RULES, ALL_RULES}
 use Rattle.un_top.specs.Checks.{no_line}
 use Rattle.un_top.specs.declared.limits.TheConstants.{INPUT}
 use Rattle.un_tree.specs.Covered.{Stands}
-use Rattle.un_tree.specs.Waits.{visits_of}
+use Rattle.un_tree.specs.Splits.{IsFirstSplit}
+use Rattle.un_tree.specs.declared.node.Node.{Node}
+use Rattle.un_tree.specs.declared.node.Node.TheVariants.{Split}
 
 -- how many rules hold: all, or those that need no counting
 abbrev pub rules_by : Bool → ℕ
@@ -40,27 +44,42 @@ IsBadAt log Short line = line ≡ length (pieces_of log) + 1
 
 -- ---- by the model of a report: its tree, under the limit of its answer
 
+-- a tree has no Split
+abbrev pub HasNoSplit : List Node → Type 0
+HasNoSplit nodes = All (λ n. n ≢ Split) nodes
+
+-- a tree has no Split, and this is its first closed leaf whose box the rules do not empty
+pub record IsStuck (rules : ℕ) (m : Model) (limit : Option ℕ) (nodes : List Node) (node : ℕ) : Type 0 where
+  pub whole : HasNoSplit nodes
+  pub stuck : IsFirstStuck rules m limit nodes node
+
+-- a tree gives no log: at its first Split, or, where it has none, at its first closed leaf whose box the rules do not empty
+abbrev pub IsLogless : ℕ → Model → Option ℕ → List Node → ℕ → Type 0
+IsLogless rules m limit nodes node = IsFirstSplit nodes node ⊎ IsStuck rules m limit nodes node
+
 module _ (counts : Bool) (m : Model) (r : Report) where
   -- a text is a log of the tree that comes to this verdict
   abbrev pub ComesTo : List ℕ → StepVerdict → Type 0
   ComesTo log verdict = IsJudged (rules_by counts) m (limit_of r.answer) r.tree.nodes.items log verdict
 
-  -- its first closed leaf that gives no log is this node
+  -- it gives no log at this node
   abbrev pub IsStuckAt : ℕ → Type 0
-  IsStuckAt node = IsFirstStuck (rules_by counts) m (limit_of r.answer) r.tree.nodes.items node
+  IsStuckAt node = IsLogless (rules_by counts) m (limit_of r.answer) r.tree.nodes.items node
 
-  -- a text is a log that closes each closed leaf; and each gives one
+  -- it has no Split, and a text is a log that closes each closed leaf; each gives one
   pub record IsLog (log : List ℕ) : Type 0 where
     pub yes : ComesTo log Yes
     pub free : (node : ℕ) → IsStuckAt node → ⊥
 
-  -- a text is such a log, so that no closed leaf holds a solution that costs less than the limit
+  -- it has no Split, and a text is such a log, so that no closed leaf holds a solution that costs less than the limit
   pub record IsGoodLog (log : List ℕ) : Type 0 where
+    pub whole : HasNoSplit r.tree.nodes.items
     pub yes : ComesTo log Yes
-    pub stands : All (Stands (IsBelow m (limit_of r.answer))) (visits_of (root_of m) r.tree.nodes.items)
+    pub stands : All (Stands (IsBelow m (limit_of r.answer)) (IsPartBelow m)) (visits_in m r.tree.nodes.items)
 
-  -- a text is none: at this line
+  -- it has no Split, and a text is none: at this line
   pub record IsBadLog (log : List ℕ) (line : ℕ) : Type 0 where
+    pub whole : HasNoSplit r.tree.nodes.items
     pub verdict : StepVerdict
     pub comes : ComesTo log verdict
     pub at : IsBadAt log verdict line
@@ -71,9 +90,10 @@ module _ (counts : Bool) (m : Model) (r : Report) where
   IsWithoutLog (NoLog node) = IsStuckAt node
   IsWithoutLog _ = ⊥
 
-  -- why a log is not accepted: want of memory, or a line that is bad
+  -- why a log is not accepted: want of memory, a Split, or a line that is bad
   abbrev pub IsNotGood : List ℕ → Status → Type 0
   IsNotGood log NoMemory = ⊤
+  IsNotGood log (NoLog node) = IsFirstSplit r.tree.nodes.items node
   IsNotGood log (BadSteps line) = IsBadLog log line
   IsNotGood log _ = ⊥
 
@@ -140,10 +160,15 @@ pub record IsBadBehind (first second : List ℕ) (line : ℕ) : Type 0 where
   pub read : IsRead first function
   pub bad : IsFirstBad second line
 
--- this node of an accepted report's tree is the first that gives no log
+-- at this node an accepted report's tree gives no log
 pub record HasNoLog (counts : Bool) (first second : List ℕ) (node : ℕ) : Type 0 where
   pub has : HasAccepted first second
   pub stuck : IsStuckAt counts has.model has.report node
+
+-- this node of an accepted report's tree is its first Split
+pub record HasSplit (first second : List ℕ) (node : ℕ) : Type 0 where
+  pub has : HasAccepted first second
+  pub split : IsFirstSplit has.report.tree.nodes.items node
 
 -- this line of a log for an accepted report's tree is bad
 pub record HasBadLog (counts : Bool) (first second log : List ℕ) (line : ℕ) : Type 0 where
@@ -162,7 +187,7 @@ IsLateLog counts first second status = IsLateBy (IsBadBehind first second) (HasN
 
 abbrev pub IsLateTold : Bool → List ℕ → List ℕ → List ℕ → Status → Type 0
 IsLateTold counts first second log status =
-    IsLateBy (IsBadBehind first second) (λ node. ⊥) (HasBadLog counts first second log) status
+    IsLateBy (IsBadBehind first second) (HasSplit first second) (HasBadLog counts first second log) status
 
 -- why nothing is put out: want of memory, a fault of the function, or a late answer
 abbrev pub RefusesBy : (Status → Type 0) → List ℕ → Status → Type 0

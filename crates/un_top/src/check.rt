@@ -59,6 +59,7 @@ pub(crate) fn put_no(out: &mut Vec<u8>, cause: NoCause) -> Result<(), NoMemory>
         NoCause::Cost => put_text(out, b"no cost\n"),
         NoCause::Listing => put_text(out, b"no listing\n"),
         NoCause::Strict(place) => put_counted(out, b"no strict ", u64::from(place)),
+        NoCause::Split(place) => put_counted(out, b"no split ", u64::from(place)),
         NoCause::Alive(place) => put_counted(out, b"no alive ", u64::from(place)),
         NoCause::Closed(place) => put_counted(out, b"no closed ", u64::from(place)),
         NoCause::Mirror(place) => put_counted(out, b"no mirror ", u64::from(place)),

@@ -1,6 +1,6 @@
 //! The report of a generated function, behind a line that sums it up.
 
-ghost use Rattle.std.specs.Prelude.{◌≡◌, ◌<◌, ◌++◌, decimal, IfOk, OnOk};
+ghost use Rattle.std.specs.Prelude.{◌≡◌, ◌<◌, ◌++◌, decimal, length, IfOk, OnOk};
 ghost use Rattle.un_commands.specs.Commands.{IsRanged};
 ghost use Rattle.un_commands.specs.Settings.{IsCountOfNodes};
 ghost use Rattle.un_commands.specs.declared.command.Command.{Command};
@@ -78,9 +78,9 @@ fn put_function(out: &mut Vec<u8>, seed: u64, size: u32, f: &Function) -> Result
     put_named(out, b" operations ", u64::from(ops))
 }
 
-/// Appends what is said of a report: its cost, its bound and its nodes.
+/// Appends what is said of a report: its cost, its bound and its nodes, which in a tree without parts are outer ones.
 fn put_report(out: &mut Vec<u8>, r: &Report) -> Result<(), NoMemory>
-    ensures { OnOk result (out.new.items ≡ out.old.items ++ report_words r.now) }
+    ensures { OnOk result (out.new.items ≡ out.old.items ++ report_words r.now (length r.now.tree.nodes.items)) }
 {
     put_named(out, b" cost ", cost_in(&r.answer))?;
     put_named(out, b" bound ", bound_in(&r.answer))?;
@@ -96,7 +96,8 @@ fn summed_up(
     f: &Function,
     r: &Report,
 ) -> Result<Vec<u8>, NoMemory>
-    ensures { IfOk result (λ text. text.items ≡ summary_line seed size f.now r.now ++ report_text r.now) }
+    ensures { IfOk result (λ text. text.items
+        ≡ summary_line seed size f.now r.now (length r.now.tree.nodes.items) ++ report_text r.now) }
 {
     let report = print_report(alloc, r)?;
     let mut out = Vec::new(alloc);

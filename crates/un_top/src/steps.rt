@@ -8,7 +8,7 @@ ghost use Rattle.un_report_reader.specs.Readings.{IsReport};
 ghost use Rattle.un_top.specs.Behaviours.{of_steps, of_steps_check};
 ghost use Rattle.un_top.specs.Checks.{no_line};
 ghost use Rattle.un_top.specs.Runs.{IsWritten, RefusesText};
-ghost use Rattle.un_top.specs.Steps.{rules_by, AreRead, IsAccepted, IsRefused, IsLog, IsGoodLog, IsWithoutLog, IsNotGood};
+ghost use Rattle.un_top.specs.Steps.{rules_by, AreRead, HasNoSplit, IsAccepted, IsRefused, IsLog, IsGoodLog, IsWithoutLog, IsNotGood};
 ghost use Rattle.un_top.specs.Steps.{IsLogOf, IsLogTold, IsLateLog, IsLateTold, RefusesBy};
 ghost use Rattle.un_top.specs.declared.limits.TheConstants.{INPUT};
 
@@ -18,7 +18,7 @@ use crate::produce::{done, status_by};
 use crate::reading::report_in;
 use std::alloc::Global;
 use un_base::memory_error::NoMemory;
-use un_base::numbers::later;
+use un_base::numbers::{later, number};
 use un_check::leaves::limit_of;
 use un_check::report::check_report;
 use un_ir::function::Function;
@@ -34,6 +34,7 @@ use un_report::report::Report;
 use un_runs::input::{split, split_three};
 use un_runs::runs::function_of;
 use un_steps::step::{ALL_RULES, PLAIN_RULES};
+use un_tree::split::first_split;
 use un_words::pieces::first_len;
 
 /// How many rules hold.
@@ -75,7 +76,41 @@ fn rejected(alloc: Global, cause: NoCause) -> Result<Output, Status>
     }
 }
 
-/// The log of an accepted report's tree, where each closed leaf gives one.
+/// How a run ends where a tree has a Split, the first one at this place.
+fn split_status(place: usize) -> Status
+    ensures { (result ≡ Status.NoMemory) ⊎ (result ≡ Status.NoLog place) }
+{
+    match number(place) {
+        Ok(node) => Status::NoLog { node },
+        Err(_) => Status::NoMemory,
+    }
+}
+
+/// The log of an accepted report's tree without Splits, where each closed leaf gives one.
+fn plain_log(
+    alloc: Global,
+    f: &Function,
+    m: &Model,
+    r: &Report,
+    counts: bool,
+) -> Result<Output, Status>
+    requires problem { IsProblemOf f.now m.now }
+    requires right { IsRight f.now.name m.now (claim_of r.now) }
+    requires plain { HasNoSplit r.now.tree.nodes.items }
+    ensures ends { IfOk result (λ out. out.status ≡ Status.Done) }
+    ensures log { IfOk result (λ out. IsLog counts m.now r.now out.text.items) }
+    ensures written { IfOk result (λ out. IsWritten out.status) }
+    ensures refused { IfErr result (IsWithoutLog counts m.now r.now) }
+{
+    let _ = f;
+    match log_tree(alloc, m, limit_of(&r.answer), rules_by(counts), &r.tree) {
+        Ok(Ok(text)) => Ok(done(text)),
+        Ok(Err(node)) => Err(Status::NoLog { node }),
+        Err(_) => Err(Status::NoMemory),
+    }
+}
+
+/// The log of an accepted report's tree, where it has no Split and each closed leaf gives one.
 fn log_of(
     alloc: Global,
     f: &Function,
@@ -90,11 +125,9 @@ fn log_of(
     ensures written { IfOk result (λ out. IsWritten out.status) }
     ensures refused { IfErr result (IsWithoutLog counts m.now r.now) }
 {
-    let _ = f;
-    match log_tree(alloc, m, limit_of(&r.answer), rules_by(counts), &r.tree) {
-        Ok(Ok(text)) => Ok(done(text)),
-        Ok(Err(node)) => Err(Status::NoLog { node }),
-        Err(_) => Err(Status::NoMemory),
+    match first_split(r.tree.nodes.as_slice()) {
+        Some(place) => Err(split_status(place)),
+        None => plain_log(alloc, f, m, r, counts),
     }
 }
 
@@ -141,8 +174,8 @@ fn steps_over(alloc: Global, first: &[u8], second: &[u8], counts: bool) -> Resul
 /// The log of the tree of the report in the second part of an input, of the function in the first one.
 ///
 /// # Errors
-/// `TextFault` with the first fault of the function's text; `BadReport` with the first bad line of the report; `NoLog` with the first closed
-/// leaf of the tree that gives no log; `NoMemory`.
+/// `TextFault` with the first fault of the function's text; `BadReport` with the first bad line of the report; `NoLog` with the first Split of
+/// the tree, where it has none with its first closed leaf that gives no log; `NoMemory`.
 pub(crate) fn steps_output(alloc: Global, input: &[u8], counts: bool) -> Result<Output, Status>
     requires few { length input.now ≤ INPUT }
     ensures ok { IfOk result (λ out. (of_steps counts).Output input.now out.status out.text.items) }
@@ -190,8 +223,8 @@ fn short_log(log: &[u8]) -> Status
     }
 }
 
-/// The answer to a log for the tree of an accepted report.
-fn told_log(
+/// The answer to a log for the tree without Splits of an accepted report.
+fn told_plain(
     alloc: Global,
     f: &Function,
     m: &Model,
@@ -201,6 +234,7 @@ fn told_log(
 ) -> Result<Output, Status>
     requires problem { IsProblemOf f.now m.now }
     requires right { IsRight f.now.name m.now (claim_of r.now) }
+    requires plain { HasNoSplit r.now.tree.nodes.items }
     ensures ends { IfOk result (λ out. out.status ≡ Status.Done) }
     ensures printed { IfOk result (λ out. out.text.items ≡ codes "yes steps\n") }
     ensures good { IfOk result (λ out. IsGoodLog counts m.now r.now log.now) }
@@ -220,6 +254,29 @@ fn told_log(
         Ok(StepVerdict::BadStep(line)) => Err(Status::BadSteps { line }),
         Ok(StepVerdict::Short) => Err(short_log(log)),
         Err(_) => Err(Status::NoMemory),
+    }
+}
+
+/// The answer to a log for the tree of an accepted report: where it has a Split, no log is one for it.
+fn told_log(
+    alloc: Global,
+    f: &Function,
+    m: &Model,
+    r: &Report,
+    log: &[u8],
+    counts: bool,
+) -> Result<Output, Status>
+    requires problem { IsProblemOf f.now m.now }
+    requires right { IsRight f.now.name m.now (claim_of r.now) }
+    ensures ends { IfOk result (λ out. out.status ≡ Status.Done) }
+    ensures printed { IfOk result (λ out. out.text.items ≡ codes "yes steps\n") }
+    ensures good { IfOk result (λ out. IsGoodLog counts m.now r.now log.now) }
+    ensures written { IfOk result (λ out. IsWritten out.status) }
+    ensures refused { IfErr result (IsNotGood counts m.now r.now log.now) }
+{
+    match first_split(r.tree.nodes.as_slice()) {
+        Some(place) => Err(split_status(place)),
+        None => told_plain(alloc, f, m, r, log, counts),
     }
 }
 
@@ -273,8 +330,8 @@ fn told_over(
 /// The answer to the log in the last part of an input, for the tree of the report in the middle part, of the function in the first one.
 ///
 /// # Errors
-/// `TextFault` with the first fault of the function's text; `BadReport` with the first bad line of the report; `BadSteps` with the first bad
-/// line of the log, or with the one past its last where lines lack or are left over; `NoMemory`.
+/// `TextFault` with the first fault of the function's text; `BadReport` with the first bad line of the report; `NoLog` with the first Split of
+/// the tree; `BadSteps` with the first bad line of the log, or with the one past its last where lines lack or are left over; `NoMemory`.
 pub(crate) fn steps_check_output(
     alloc: Global,
     input: &[u8],

@@ -2,6 +2,9 @@ pub mod BoxLaws
 pub mod CoverLaws
 pub mod Cuts
 pub mod NodeLines
+pub mod PartLaws
+pub mod PlainLaws
+pub mod SplitPins
 pub mod SearchPins
 pub mod TreePins
 pub mod TreeTexts

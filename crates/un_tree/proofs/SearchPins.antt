@@ -1,6 +1,6 @@
 -- What a search says of a small tree, worked out by hand: rounds that know that a first value of 1 is in no solution, nor one of 2, and
 -- that leave the second variable alone; and a cost that rises with the least first value.
-use Rattle.std.proofs.Common.{ℕ, zero, suc, ◌≡◌, ◌<◌, ◌+◌, ◌≤◌, List, [], ◌∷◌, length, filter, nat_le, nat_lt, Some, None, All, refl, arith}
+use Rattle.std.proofs.Common.{ℕ, zero, suc, ◌≡◌, ◌<◌, ◌+◌, List, [], ◌∷◌, length, filter, nat_le, nat_lt, Some, None, All, refl, arith}
 use Rattle.std.specs.declared.option.Option.{Option}
 use Rattle.std.specs.Prelude.{if◌then◌else◌}
 use Rattle.std.proofs.lemmas.List.Elements.{All-contains, All-from_recursion}
@@ -43,8 +43,8 @@ none_left h = by h.var h.there h.two
 
 -- ---- how the rounds ended
 
-searched : All (IsSearched rounds) (visits_of b tree)
-searched = All-from_recursion (IsSearched rounds) (visits_of b tree) ((omega arith, omega arith, omega arith), (refl, (two_left, tt)))
+searched : All (IsSearched rounds) (visits_of 2 b tree)
+searched = All-from_recursion (IsSearched rounds) (visits_of 2 b tree) ((omega arith, omega arith, omega arith), (refl, (two_left, tt)))
 
 -- 1 splits the box, but not what the rounds left of it
 split_below : IsSearchedAt rounds (Branch (v 0) 1) b → ⊥
@@ -74,9 +74,9 @@ not_before h = omega (arith, h 7 5 refl refl)
 abbrev nowhere : Visit
 nowhere = record { node = Closed; waiting = Whole []; place = 0; rest = [] }
 
-best_first : IsBestFirst cost (visits_of b tree)
+best_first : IsBestFirst cost (visits_of 2 b tree)
 best_first =
-    let ps : List Visit = visits_of b tree in
+    let ps : List Visit = visits_of 2 b tree in
     All-from_recursion (λ p. All (λ q. IsBeforeIn cost p.node p.waiting q.node q.waiting) ps) ps (
       All-from_recursion (λ q. IsBeforeIn cost (Branch (v 0) 2) (Whole b) q.node q.waiting) ps (tt, (tt, (before, tt))),
       (
@@ -86,33 +86,33 @@ best_first =
     )
 
 -- a branch that costs more than an open leaf before it
-dearer_behind : IsBestFirst cost (visits_of b (Branch (v 0) 2 ∷ Open ∷ Branch (v 1) 5 ∷ Closed ∷ Closed ∷ [])) → ⊥
+dearer_behind : IsBestFirst cost (visits_of 2 b (Branch (v 0) 2 ∷ Open ∷ Branch (v 1) 5 ∷ Closed ∷ Closed ∷ [])) → ⊥
 dearer_behind h = omega (arith, h 2 nowhere (omega arith) 1 nowhere (omega arith) 7 5 refl refl)
 
 -- and one that costs more than an open leaf below it, where a cost falls with the least first value
 abbrev falling : Sets → ℕ → Type 0
 falling c n = n + least (set_at c 0) ≡ 10
 
-dearer_above : IsBestFirst falling (visits_of b tree) → ⊥
+dearer_above : IsBestFirst falling (visits_of 2 b tree) → ⊥
 dearer_above h = omega (arith, h 0 nowhere (omega arith) 2 nowhere (omega arith) 9 7 refl refl)
 
 -- ---- the least of the open leaves
 
-lowest : IsLowest cost (visits_of b tree) 7
+lowest : IsLowest cost (visits_of 2 b tree) 7
 lowest = record {
-  below = All-from_recursion (λ (p : Visit). HasAtLeast cost 7 p.node p.waiting) (visits_of b tree)
+  below = All-from_recursion (λ (p : Visit). HasAtLeast cost 7 p.node p.waiting) (visits_of 2 b tree)
       (tt, (tt, ((λ n e. omega (arith, e)), tt)));
   leaf = record { node = Open; waiting = Whole high; place = 2; rest = [] };
   there = (2, omega arith, refl);
   has = refl;
 }
 
-no_leaf_has_it : IsLowest cost (visits_of b tree) 6 → ⊥
+no_leaf_has_it : IsLowest cost (visits_of 2 b tree) 6 → ⊥
 no_leaf_has_it h =
-    All-contains (λ (p : Visit). HasLeast cost 6 p.node p.waiting → ⊥) (visits_of b tree) h.leaf
-    (All-from_recursion (λ (p : Visit). HasLeast cost 6 p.node p.waiting → ⊥) (visits_of b tree)
+    All-contains (λ (p : Visit). HasLeast cost 6 p.node p.waiting → ⊥) (visits_of 2 b tree) h.leaf
+    (All-from_recursion (λ (p : Visit). HasLeast cost 6 p.node p.waiting → ⊥) (visits_of 2 b tree)
     ((λ e. e), ((λ e. e), ((λ e. omega (arith, e)), tt)))) h.there h.has
 
 -- 7 is the right leaf's, and the left one has 5
-another_is_lower : IsLowest cost (visits_of b (Branch (v 0) 2 ∷ Open ∷ Open ∷ [])) 7 → ⊥
+another_is_lower : IsLowest cost (visits_of 2 b (Branch (v 0) 2 ∷ Open ∷ Open ∷ [])) 7 → ⊥
 another_is_lower h = omega (arith, h.below 1 nowhere (omega arith) 5 refl)

@@ -4,7 +4,7 @@ use Rattle.un_base.specs.declared.ids.VarId.{VarId}
 use Rattle.un_domains.specs.Sets.{Sets}
 use Rattle.un_domains.specs.declared.side.Side.TheVariants.{AtMost, Above}
 use Rattle.un_tree.specs.Boxes.{half, reached, volume}
-use Rattle.un_tree.specs.Waits.{Whole, visits_of, IsTreeOf, IsStrictIn, leaves, open_count, IsOdd}
+use Rattle.un_tree.specs.Waits.{Whole, visits_of, IsTreeOf, HasSidesIn, leaves, open_count, IsOdd}
 use Rattle.un_tree.specs.declared.node.Node.TheVariants.{Branch, Closed, Open}
 
 -- the variable with this number
@@ -33,35 +33,35 @@ assignments : (volume b ≡ 6) × (volume low ≡ 4) × (volume high ≡ 2)
 assignments = (refl, refl, refl)
 
 -- the left subtree comes first, and a node past the end of the tree stands nowhere
-stands : visits_of b (Branch (v 0) 2 ∷ Closed ∷ Open ∷ Open ∷ [])
+stands : visits_of 2 b (Branch (v 0) 2 ∷ Closed ∷ Open ∷ Open ∷ [])
     ≡ record { node = Branch (v 0) 2; waiting = Whole b; place = 0; rest = Closed ∷ Open ∷ Open ∷ [] }
     ∷ record { node = Closed; waiting = Whole low; place = 1; rest = Open ∷ Open ∷ [] }
     ∷ record { node = Open; waiting = Whole high; place = 2; rest = Open ∷ [] } ∷ []
 stands = refl
 
-whole_tree : IsTreeOf b (Branch (v 0) 2 ∷ Closed ∷ Open ∷ [])
+whole_tree : IsTreeOf 2 b (Branch (v 0) 2 ∷ Closed ∷ Open ∷ [])
 whole_tree = refl
 
-ends_inside : IsTreeOf b (Branch (v 0) 2 ∷ Closed ∷ []) → ⊥
+ends_inside : IsTreeOf 2 b (Branch (v 0) 2 ∷ Closed ∷ []) → ⊥
 ends_inside e = cc e
 
-goes_on : IsTreeOf b (Open ∷ Closed ∷ []) → ⊥
+goes_on : IsTreeOf 2 b (Open ∷ Closed ∷ []) → ⊥
 goes_on h = h
 
 -- between 1 and 3 both sides have values, from 3 on one side has none, and so has each side of a variable that is not there
-both : IsStrictIn (Branch (v 0) 2) (Whole b) × IsStrictIn (Branch (v 0) 1) (Whole b)
+both : HasSidesIn (Branch (v 0) 2) (Whole b) × HasSidesIn (Branch (v 0) 1) (Whole b)
 both = ((omega arith, omega arith, omega arith), (omega arith, omega arith, omega arith))
 
-one_side : IsStrictIn (Branch (v 0) 3) (Whole b) → ⊥
+one_side : HasSidesIn (Branch (v 0) 3) (Whole b) → ⊥
 one_side h = omega (arith, h.2)
 
-below_all : IsStrictIn (Branch (v 0) 0) (Whole b) → ⊥
+below_all : HasSidesIn (Branch (v 0) 0) (Whole b) → ⊥
 below_all h = omega (arith, h.1)
 
-no_variable : IsStrictIn (Branch (v 2) 0) (Whole b) → ⊥
+no_variable : HasSidesIn (Branch (v 2) 0) (Whole b) → ⊥
 no_variable h = omega (arith, h.0)
 
-counts : (leaves (Branch (v 0) 2 ∷ Closed ∷ Open ∷ []) ≡ 2) × (open_count (Branch (v 0) 2 ∷ Closed ∷ Open ∷ []) ≡ 1)
+counts : (leaves (visits_of 2 b (Branch (v 0) 2 ∷ Closed ∷ Open ∷ [])) ≡ 2) × (open_count (Branch (v 0) 2 ∷ Closed ∷ Open ∷ []) ≡ 1)
 counts = (refl, refl)
 
 -- of 8 nodes 7 are used, of 7 all

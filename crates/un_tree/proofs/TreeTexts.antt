@@ -20,7 +20,7 @@ pub text_cons : (n : Node) (ns : List Node) (rest : List ℕ) → tree_text (n �
 text_cons n ns rest = append_assoc (node_line n ++ 10 ∷ []) (tree_text ns) rest
     ∙ append_assoc (node_line n) (10 ∷ []) (tree_text ns ++ rest)
 
-some_line : (n : Node) (rest : List ℕ) → node_line n ++ 10 ∷ rest ≢ []
+pub some_line : (n : Node) (rest : List ℕ) → node_line n ++ 10 ∷ rest ≢ []
 some_line n rest e = by (node_line n) e
   where
     by : (line : List ℕ) → line ++ 10 ∷ rest ≢ []

@@ -4,5 +4,7 @@
 pub mod laws;
 pub mod line;
 pub mod node;
+pub mod parts;
 pub mod print;
 pub mod read;
+pub mod split;

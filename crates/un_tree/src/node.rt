@@ -12,6 +12,11 @@ pub enum Node {
     Closed,
     /// A leaf that was not searched.
     Open,
+    /// A leaf that is refuted block by block: behind it comes a part for each block, in the order of the blocks.
+    Split,
+    /// The first node of a part, before its tree of Branch and Closed nodes, which refutes what costs less than `least` in the block,
+    /// or all of the block where there is none.
+    Part { least: Option<u64> },
 }
 
 /// A tree of a search.

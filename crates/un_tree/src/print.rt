@@ -1,7 +1,7 @@
 //! Trees as text.
 
 ghost use Rattle.std.specs.Prelude.{◌≡◌, ◌++◌, ◌∷◌, [], IfOk, OnOk, codes, decimal};
-ghost use Rattle.un_tree.specs.Texts.{node_line, tree_text};
+ghost use Rattle.un_tree.specs.Texts.{node_line, number_text, tree_text};
 
 use crate::node::{Node, Tree};
 use std::alloc::Global;
@@ -26,6 +26,16 @@ fn put_numbers(alloc: Global, out: &mut Vec<u8>, var: VarId, val: u32) -> Result
     write_decimal(alloc, out, u64::from(val))
 }
 
+/// Appends the number that a part is under, or a dash.
+fn put_least(alloc: Global, out: &mut Vec<u8>, least: Option<u64>) -> Result<(), NoMemory>
+    ensures { OnOk result (out.new.items ≡ out.old.items ++ number_text least) }
+{
+    match least {
+        None => put_text(out, b"-"),
+        Some(n) => write_decimal(alloc, out, n),
+    }
+}
+
 /// Appends the line of a node, without its line feed.
 fn put_node(alloc: Global, out: &mut Vec<u8>, node: Node) -> Result<(), NoMemory>
     ensures { OnOk result (out.new.items ≡ out.old.items ++ node_line node) }
@@ -37,6 +47,11 @@ fn put_node(alloc: Global, out: &mut Vec<u8>, node: Node) -> Result<(), NoMemory
         }
         Node::Closed => put_text(out, b"C"),
         Node::Open => put_text(out, b"O"),
+        Node::Split => put_text(out, b"S"),
+        Node::Part { least } => {
+            put_text(out, b"P ")?;
+            put_least(alloc, out, least)
+        }
     }
 }
 
@@ -51,7 +66,7 @@ pub fn put_tree(alloc: Global, out: &mut Vec<u8>, t: &Tree) -> Result<(), NoMemo
     Ok(())
 }
 
-/// The text of a tree: a line for each node, `B VAR VAL`, `C` or `O`.
+/// The text of a tree: a line for each node, `B VAR VAL`, `C`, `O`, `S`, `P N` or `P -`.
 ///
 /// # Errors
 /// `NoMemory` where there is no memory for the text.

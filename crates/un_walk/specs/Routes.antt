@@ -8,7 +8,7 @@ use Rattle.un_tree.specs.Boxes.{reached}
 use Rattle.un_tree.specs.Waits.{Waiting, Whole, Visit}
 use Rattle.un_tree.specs.declared.node.Decision.{Decision}
 use Rattle.un_tree.specs.declared.node.Node.{Node}
-use Rattle.un_tree.specs.declared.node.Node.TheVariants.{Branch, Closed, Open}
+use Rattle.un_tree.specs.declared.node.Node.TheVariants.{Branch, Closed, Open, Split, Part}
 
 -- the paths that wait behind a node, the next one first: of a branch both sides
 abbrev pub paths_after : Option (VarId × ℕ) → List Decision → List (List Decision) → List (List Decision)
@@ -43,6 +43,8 @@ abbrev pub branch_at : Node → Option (VarId × ℕ)
 branch_at (Branch v x) = Some (v, x)
 branch_at Closed = None
 branch_at Open = None
+branch_at Split = None
+branch_at (Part number) = None
 
 -- what waits at the end of a path
 abbrev pub box_at : Sets → List Decision → Waiting

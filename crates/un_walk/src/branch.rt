@@ -17,6 +17,8 @@ pub fn branch_of(node: Node) -> Option<(VarId, u32)>
         Node::Branch { var, val } => Some((var, val)),
         Node::Closed => None,
         Node::Open => None,
+        Node::Split => None,
+        Node::Part { .. } => None,
     }
 }
 

@@ -30,7 +30,7 @@ returns-in-None-clause-tried g c =
     let P = g.P.Problem in
     let m = g.met.P.Problem in
     let p = c.args.problem.now in
-    refutes (P.root p) (P.fix p) (P.least p) (P.is_good p) (m.inside p) (m.keeps p) _ _ _ _ _ _ c.loop-alloc.invariant.sofar
+    refutes (P.root p) (P.fix p) (P.least p) (P.block_count p) (P.is_good p) (m.inside p) (m.keeps p) _ _ _ _ _ _ c.loop-alloc.invariant.sofar
     c.as_slice.ensures.value c.in_ok-list-in-None.ensures c.in-None.ensures.none c.loop-alloc.invariant.within
 
 pub returns-in-None-clause-first : goal.returns-in-None-clause-first
@@ -43,7 +43,7 @@ returns-in-None-clause-first g c few =
       arith,
       few,
       i.within,
-    )) (none_open (P.root p) (P.fix p) (P.least p) (P.is_good p) (m.inside p) (m.keeps p) _ _ _ i.sofar c.in-None.ensures.none))
+    )) (none_open (P.root p) (P.fix p) (P.least p) (P.block_count p) (P.is_good p) (m.inside p) (m.keeps p) _ _ _ i.sofar c.in-None.ensures.none))
 
 pub list-requires-then-len-nodes : goal.list-requires-then-len-nodes
 list-requires-then-len-nodes g c =
@@ -58,7 +58,7 @@ returns-then-len-nodes-clause-tried g c =
     let m = g.met.P.Problem in
     let p = c.args.problem.now in
     let i = c.loop-alloc.invariant in
-    stops (P.root p) (P.fix p) (P.least p) (P.is_good p) (m.inside p) (m.keeps p) (m.rises p) _ _ _ _ _ c.in-Some.top _ _ i.sofar
+    stops (P.root p) (P.fix p) (P.least p) (P.block_count p) (P.is_good p) (m.inside p) (m.keeps p) (m.rises p) _ _ _ _ _ c.in-Some.top _ _ i.sofar
     c.in-Some.ensures.rest c.in-Some.ensures.best c.as_slice-then-len-nodes.ensures.value c.in_ok-list.ensures
     i.within (omega arith)
 

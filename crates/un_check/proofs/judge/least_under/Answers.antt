@@ -7,11 +7,11 @@ use Rattle.un_check.proofs.judge.least_under.Goals as goal
 
 pub relaxed-answer-requires-clause-long : goal.relaxed-answer-requires-clause-long
 relaxed-answer-requires-clause-long c =
-    let g = c.args.rules.now in (cuts_box (root_of g.m.now) c.args.room.now.stand c.requires.at.stand).0.long
+    let g = c.args.rules.now in (cuts_box (root_of g.m.now) c.args.room.now.stand c.requires.at.room.stand).0.long
 
 pub relaxed-answer-requires-clause-live : goal.relaxed-answer-requires-clause-live
 relaxed-answer-requires-clause-live c =
-    let g = c.args.rules.now in (cuts_box (root_of g.m.now) c.args.room.now.stand c.requires.at.stand).1
+    let g = c.args.rules.now in (cuts_box (root_of g.m.now) c.args.room.now.stand c.requires.at.room.stand).1
 
 pub returns-clause-least : goal.returns-clause-least
 returns-clause-least c =

@@ -2,7 +2,7 @@ use Rattle.std.proofs.Common.{sym, refl, subst}
 use Rattle.std.specs.Prelude.{Option}
 use Rattle.un_domains.specs.Sets.{Sets}
 use Rattle.un_model.specs.Boxes.{root_of}
-use Rattle.un_tree.specs.Waits.{Whole, IsStrictIn}
+use Rattle.un_tree.specs.Waits.{Whole, HasSidesIn}
 use Rattle.un_judge.specs.Walks.{Passes}
 use Rattle.un_judge.specs.declared.verdict.StepVerdict.{StepVerdict}
 use Rattle.un_judge.proofs.Walkings.{one_box, told_here, walk_on}
@@ -10,7 +10,7 @@ use Rattle.un_judge.proofs.judge.visit.Goals as goal
 
 pub advance-requires-clause-strict : goal.advance-requires-clause-strict
 advance-requires-clause-strict c =
-    subst (λ (b : Sets). IsStrictIn c.args.node (Whole b))
+    subst (λ (b : Sets). HasSidesIn c.args.node (Whole b))
     (sym (one_box (root_of c.args.r.now.m.now) c.args.walk.now.stand c.lines_of.new.walk.stand c.requires.at c.in_ok-told.ensures.at
     c.in_ok-told.ensures.path)) c.requires.strict
 

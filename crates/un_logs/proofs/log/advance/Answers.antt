@@ -7,6 +7,7 @@ use Rattle.un_tree.specs.Waits.{Whole, after}
 use Rattle.un_walk.specs.Routes.{paths_after}
 use Rattle.un_walk.specs.Turns.{paths_behind, waits}
 use Rattle.un_walk.proofs.RouteLemmas.{after_by}
+use Rattle.un_judge.specs.Walks.{blocks_of}
 use Rattle.un_judge.proofs.Walkings.{splits_by}
 use Rattle.un_logs.proofs.log.advance.Goals as goal
 
@@ -18,6 +19,6 @@ returns-clause-waits c =
     let root = root_of c.args.r.now.m.now in
     let path = c.args.stand.now.path.items in
     let at = c.requires.at in
-    ap (λ (b : Sets). after c.args.node (Whole b) (waits root path)) at.sets
-    ∙ after_by root c.args.node path c.step.new.stand.path.items c.in_ok-more.more
+    ap (λ (b : Sets). after (blocks_of c.args.r.now) c.args.node (Whole b) (waits root path)) at.sets
+    ∙ after_by (blocks_of c.args.r.now) root c.args.node path c.step.new.stand.path.items c.in_ok-more.more c.requires.plain
     (ap (λ (b : Option (VarId × ℕ)). paths_after b path (paths_behind [] path)) (sym c.branch_of.ensures) ∙ c.in_ok-more.ensures.waits)

@@ -1,7 +1,7 @@
 use Rattle.std.proofs.Common.{ℕ, ◌+◌, sym, subst, ap, ◌∙◌}
 use Rattle.un_domains.specs.Sets.{Sets}
 use Rattle.un_model.specs.Boxes.{root_of}
-use Rattle.un_tree.specs.Waits.{Whole, IsStrictIn}
+use Rattle.un_tree.specs.Waits.{Whole, HasSidesIn}
 use Rattle.un_judge.proofs.Walkings.{one_box}
 use Rattle.un_logs.proofs.Walking.{walk_on, first_stuck}
 use Rattle.un_logs.proofs.Within.{on_true, on_false}
@@ -9,7 +9,7 @@ use Rattle.un_logs.proofs.log.visit.Goals as goal
 
 pub advance-requires-clause-strict : goal.advance-requires-clause-strict
 advance-requires-clause-strict c =
-    subst (λ (b : Sets). IsStrictIn c.args.node (Whole b))
+    subst (λ (b : Sets). HasSidesIn c.args.node (Whole b))
     (sym (one_box (root_of c.args.r.now.m.now) c.args.walk.now.stand c.write_node.new.walk.stand c.requires.at c.in_ok-ended.ensures.at
     c.in_ok-ended.ensures.path)) c.requires.strict
 

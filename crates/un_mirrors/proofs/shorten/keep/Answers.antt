@@ -3,8 +3,12 @@ use Rattle.un_model.specs.Boxes.{root_of}
 use Rattle.un_mirrors.proofs.WorkLemmas.{next_inside, next_splits, work_kept}
 use Rattle.un_mirrors.proofs.shorten.keep.Goals as goal
 
-pub same_node-requires : goal.same_node-requires
-same_node-requires c = c.requires.tree.closed c.args.work.now.place _
+pub same_node-requires-clause-closed : goal.same_node-requires-clause-closed
+same_node-requires-clause-closed c = c.requires.tree.closed c.args.work.now.place _
+    (next_inside c.args.m.now c.args.nodes.now c.args.work.now c.args.work.now c.requires.work c.requires.more)
+
+pub same_node-requires-clause-plain : goal.same_node-requires-clause-plain
+same_node-requires-clause-plain c = c.requires.tree.plain c.args.work.now.place _
     (next_inside c.args.m.now c.args.nodes.now c.args.work.now c.args.work.now c.requires.work c.requires.more)
 
 pub step-requires-clause-at : goal.step-requires-clause-at

@@ -4,7 +4,7 @@ use Rattle.un_refutes.proofs.JudgeLemmas.{strict_tells}
 use Rattle.un_refutes.proofs.judge.is_strict.Goals as goal
 
 pub splits-requires : goal.splits-requires
-splits-requires c = let g = c.args.rules.now in (cuts_box (root_of g.m.now) c.args.room.now.stand c.requires.at.stand).1
+splits-requires c = let g = c.args.rules.now in (cuts_box (root_of g.m.now) c.args.room.now.stand c.requires.at.room.stand).1
 
 pub returns : goal.returns
 returns c = let g = c.args.rules.now in

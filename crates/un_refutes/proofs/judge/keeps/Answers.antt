@@ -10,5 +10,4 @@ pub returns-in-Closed : goal.returns-in-Closed
 returns-in-Closed c =
     let g = c.args.rules.now in
     subst (λ (n : SymNode). IsTrue c.is_lost.result ↔ KeepsAt g.m.now g.limit n (path_of c.args.room.now)) (sym c.in-Closed.is)
-    (closed_tells g.m.now g.limit c.args.room.now c.requires.at c.is_lost.result
-    (λ e. c.is_lost.ensures.lost e g.m.now g.limit c.requires.at) (λ e. c.is_lost.ensures.rests e g.m.now g.limit c.requires.at))
+    (closed_tells g.m.now g.limit c.args.room.now c.requires.at c.is_lost.result c.is_lost.ensures.lost c.is_lost.ensures.rests)

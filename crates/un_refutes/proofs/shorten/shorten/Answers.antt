@@ -7,7 +7,8 @@ shorten-requires-clause-domains c = domains_are c.args.m.now c.requires.model c.
 
 pub returns-clause-yes : goal.returns-clause-yes
 returns-clause-yes c =
-    yes_of c.args.m.now c.args.limit c.args.t.now.nodes.items c.shorten.result c.requires.certificate.tree.searched c.shorten.ensures.whole
+    let tree = c.requires.certificate.tree in
+    yes_of c.args.m.now c.args.limit c.args.t.now.nodes.items c.shorten.result tree.plain tree.searched c.shorten.ensures.whole
     c.shorten.ensures.kept c.shorten.ensures.strict c.shorten.ensures.mirrors
 
 pub returns-clause-few : goal.returns-clause-few

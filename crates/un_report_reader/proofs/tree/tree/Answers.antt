@@ -9,5 +9,5 @@ use Rattle.un_report_reader.proofs.tree.tree.Goals as goal
 pub returns-in_err-text-clause-bad : goal.returns-in_err-text-clause-bad
 returns-in_err-text-clause-bad c =
     let p = err_from_is_err_and c.from_residual-in_err-text.result c.from_residual-in_err-text.ensures.1 in
-    rw (p.1, p.2) (past_line (AreFewLines c.args.limits) tree_head InNodes c.args.at _ _ c.in_ok-count.ensures.ok _
-    (own_nodes c.in_ok-count.count _ _ c.in_err-text.ensures.bad))
+    rw (p.1, p.2) (past_line (AreFewLines c.args.limits) tree_head (InNodes c.args.limits) c.args.at _ _ c.in_ok-count.ensures.ok _
+    (own_nodes c.args.limits c.in_ok-count.count _ _ c.in_err-text.ensures.bad))

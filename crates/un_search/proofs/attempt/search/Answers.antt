@@ -1,3 +1,4 @@
+use Rattle.un_stand.proofs.ModelRooms.{at_goes, at_room}
 use Rattle.un_search.proofs.AttemptLemmas.{answers, by_root}
 use Rattle.un_search.proofs.EnoughLemmas.{not_cut}
 use Rattle.un_search.proofs.PlaceLemmas.{back_at_root, first_is, root_rests}
@@ -12,12 +13,12 @@ attempt-requires-clause-fresh c =
     )
 
 pub to_first-requires : goal.to_first-requires
-to_first-requires c = record { at = c.in_ok-tried.ensures.ready.at }
+to_first-requires c = at_room c.args.m.now c.args.limit _ c.in_ok-tried.ensures.ready.at
 
 pub stores_of-requires-clause-at : goal.stores_of-requires-clause-at
 stores_of-requires-clause-at c =
     let ready = c.in_ok-tried.ensures.ready in
-    record { rules = ready.rules; at = c.to_first.ensures.at; scratch = ready.scratch }
+    record { rules = ready.rules; at = at_goes c.args.m.now c.args.limit _ _ ready.at c.to_first.ensures.at; scratch = ready.scratch }
 
 pub stores_of-requires-clause-rests : goal.stores_of-requires-clause-rests
 stores_of-requires-clause-rests c = root_rests (record { m = c.args.m; limit = c.args.limit }) c.args.stores c.requires.root
@@ -54,5 +55,5 @@ pub returns-clause-root : goal.returns-clause-root
 returns-clause-root c =
     let ready = c.in_ok-tried.ensures.ready in
     let e = c.stores_of.ensures in
-    back_at_root (record { m = c.args.m; limit = c.args.limit }) c.args.stores c.requires.root c.stores_of.result _ _ c.to_first.ensures.at
-    ready.scratch c.to_first.ensures.first e.engine e.cuts e.scratch
+    back_at_root (record { m = c.args.m; limit = c.args.limit }) c.args.stores c.requires.root c.stores_of.result _ _
+    (at_goes c.args.m.now c.args.limit _ _ ready.at c.to_first.ensures.at) ready.scratch c.to_first.ensures.first e.engine e.cuts e.scratch

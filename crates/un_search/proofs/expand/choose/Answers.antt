@@ -12,7 +12,6 @@ pub choose_in-requires-clause-live : goal.choose_in-requires-clause-live
 choose_in-requires-clause-live c =
     let g = c.args.rules.now in
     end_live g.m.now g.limit c.args.place.now.room c.requires.at.at HasTwo c.requires.choice c.in-Some.engine c.in-Some.is
-    c.requires.at.rules.postable
 
 pub choose_in-requires-clause-two : goal.choose_in-requires-clause-two
 choose_in-requires-clause-two c =

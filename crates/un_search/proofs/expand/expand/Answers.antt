@@ -8,15 +8,22 @@ use Rattle.un_model.specs.Boxes.{IsBelow, root_of}
 use Rattle.un_bound.specs.Relaxations.{IsLeast}
 use Rattle.un_post.specs.Posts.{fix_at}
 use Rattle.un_branching.specs.Searched.{IsLook}
+use Rattle.un_stand.proofs.ModelRooms.{at_goes, at_on}
 use Rattle.un_search.proofs.PlaceLemmas.{splits_here}
 use Rattle.un_search.proofs.expand.expand.Goals as goal
 
-pub go_to-requires-clause-at : goal.go_to-requires-clause-at
-go_to-requires-clause-at c = c.requires.at.at
+pub go_to-requires : goal.go_to-requires
+go_to-requires c =
+    let g = c.args.rules.now in at_on g.m.now g.limit c.args.place.now.room c.requires.at.at c.args.path.now c.requires.split
 
 pub choose-requires-clause-at : goal.choose-requires-clause-at
 choose-requires-clause-at c =
-    record { rules = c.requires.at.rules; at = c.in_ok-go_to.ensures.at; scratch = c.requires.at.scratch }
+    let g = c.args.rules.now in
+    record {
+      rules = c.requires.at.rules;
+      at = at_goes g.m.now g.limit c.args.place.now.room _ c.requires.at.at c.in_ok-go_to.ensures.at;
+      scratch = c.requires.at.scratch;
+    }
 
 pub choose-requires-clause-choice : goal.choose-requires-clause-choice
 choose-requires-clause-choice c =
@@ -30,7 +37,9 @@ peek-requires-clause-split c =
     let v = c.in_ok-choice.choice.var in
     let x = c.in_ok-choice.choice.val in
     subst (λ (ds : List Decision). Splits (reached (root_of g.m.now) ds) v x) (sym c.in_ok-choice.ensures.path)
-    (splits_here g.m.now g.limit c.go_to.new.room c.in_ok-go_to.ensures.at c.requires.at.rules.postable v x c.in_ok-choice.ensures.splits)
+    (splits_here g.m.now g.limit c.go_to.new.room
+    (at_goes g.m.now g.limit c.args.place.now.room c.go_to.new.room c.requires.at.at c.in_ok-go_to.ensures.at) v x
+    c.in_ok-choice.ensures.splits)
 
 pub enter-requires-clause-split : goal.enter-requires-clause-split
 enter-requires-clause-split c =
@@ -38,7 +47,9 @@ enter-requires-clause-split c =
     let v = c.in_ok-choice.choice.var in
     let x = c.in_ok-choice.choice.val in
     subst (λ (ds : List Decision). Splits (reached (root_of g.m.now) ds) v x) (sym (c.in_ok-right.ensures.path ∙ c.in_ok-choice.ensures.path))
-    (splits_here g.m.now g.limit c.go_to.new.room c.in_ok-go_to.ensures.at c.requires.at.rules.postable v x c.in_ok-choice.ensures.splits)
+    (splits_here g.m.now g.limit c.go_to.new.room
+    (at_goes g.m.now g.limit c.args.place.now.room c.go_to.new.room c.requires.at.at c.in_ok-go_to.ensures.at) v x
+    c.in_ok-choice.ensures.splits)
 
 pub returns-clause-expansion : goal.returns-clause-expansion
 returns-clause-expansion c =

@@ -15,8 +15,10 @@ use Rattle.un_search.proofs.solve.solve.Goals as goal
 
 pub returns-in_ok-answer-in-None-clause-none : goal.returns-in_ok-answer-in-None-clause-none
 returns-in_ok-answer-in-None-clause-none c =
+    let r = c.requires in
     on_infeasible (IsRefuted c.args.m.now None c.args.nodes) (λ (t : List Node). (x : Solution) → IsSolution c.args.m.now x → ⊥)
-    (λ (t : List Node) h. none_left c.args.m.now c.args.nodes t c.requires.model h) _ c.in_ok-answer-in-None.ensures.infeasible
+    (λ (t : List Node) h. none_left c.args.m.now c.args.nodes t r.model r.extended r.fit r.options h) _
+    c.in_ok-answer-in-None.ensures.infeasible
 
 pub returns-in_ok-answer-in-None-clause-enough : goal.returns-in_ok-answer-in-None-clause-enough
 returns-in_ok-answer-in-None-clause-enough c enough =

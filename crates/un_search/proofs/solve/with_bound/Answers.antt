@@ -1,5 +1,3 @@
-use Rattle.un_tree.specs.Waits.{visits_of}
-use Rattle.un_model.specs.Boxes.{root_of}
 use Rattle.un_search.proofs.SolveLemmas.{best_code}
 use Rattle.un_search.proofs.solve.with_bound.Goals as goal
 

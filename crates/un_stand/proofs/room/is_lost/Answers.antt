@@ -11,16 +11,16 @@ all : (i j a b : ℕ) → nat_lt i j ≡ false → i ≡ a → j ≡ b → b ≤
 all i j a b e f g = grind (arith, nat_tests, e, f, g)
 
 pub returns-in-None-clause-lost : goal.returns-in-None-clause-lost
-returns-in-None-clause-lost c e m limit h = lost_none m limit _ _ h.rounds c.in-None.is
+returns-in-None-clause-lost c e root fix ps h = lost_none root fix ps _ _ h.ends c.in-None.is
 
 pub returns-in-Some-clause-lost : goal.returns-in-Some-clause-lost
-returns-in-Some-clause-lost c e m limit h =
-    fewer_marks m limit c.args.room.now h c.in-Some.engine c.in-Some.is
+returns-in-Some-clause-lost c e root fix ps h =
+    fewer_marks root fix ps c.args.room.now h c.in-Some.engine c.in-Some.is
     (fewer c.marks.result c.marks-in-Some.result (length c.in-Some.engine.store.marked) (length c.args.room.now.stand.cuts.marked) e
     (c.marks.ensures ∙ ap (λ (k : Contents). length k.marked) c.store.ensures) c.marks-in-Some.ensures)
 
 pub returns-in-Some-clause-rests : goal.returns-in-Some-clause-rests
-returns-in-Some-clause-rests c e m limit h =
-    all_marks m limit c.args.room.now h c.in-Some.engine c.in-Some.is
+returns-in-Some-clause-rests c e root fix ps h =
+    all_marks root fix ps c.args.room.now h c.in-Some.engine c.in-Some.is
     (all c.marks.result c.marks-in-Some.result (length c.in-Some.engine.store.marked) (length c.args.room.now.stand.cuts.marked) e
     (c.marks.ensures ∙ ap (λ (k : Contents). length k.marked) c.store.ensures) c.marks-in-Some.ensures)

@@ -39,5 +39,5 @@ returns-clause-no_worse c =
 pub returns-clause-read : goal.returns-clause-read
 returns-clause-read c = λ count.
     let found = returns-clause-search c in
-    is_report c.args.f.now c.args.m.now c.args.nodes c.in_ok-report.report c.requires.problem found.versioned found.chosen found.budget found.sound found.few
+    is_report c.args.f.now c.args.m.now c.args.nodes c.in_ok-report.report c.requires.problem found.versioned found.chosen found.budget found.sound found.searched found.few
     c.in_ok-report.ensures.long count

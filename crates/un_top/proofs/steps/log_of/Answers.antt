@@ -1,11 +1,12 @@
-use Rattle.std.proofs.Common.{ap}
-use Rattle.std.specs.declared.vec.Vec.{Vec}
-use Rattle.un_top.proofs.StepLaws.{log_made}
+use Rattle.std.proofs.Common.{subst}
+use Rattle.un_top.proofs.StepLaws.{split_refused}
+use Rattle.un_top.specs.Steps.{HasNoSplit}
 use Rattle.un_top.proofs.steps.log_of.Goals as goal
 
-pub returns-in-Ok-Ok-clause-log : goal.returns-in-Ok-Ok-clause-log
-returns-in-Ok-Ok-clause-log c =
-    let told = c.in-Ok-Ok in
-    log_made c.args.counts c.args.m.now c.args.r.now c.limit_of.result c.rules_by.result c.limit_of.ensures c.rules_by.ensures
-    (λ text. text.items) told.field-0 told.text c.done.result.text.items told.field-0-is told.ensures.log told.ensures.exactly
-    (ap (λ text. text.items) c.done.ensures.text)
+pub returns-in-Some-clause-refused : goal.returns-in-Some-clause-refused
+returns-in-Some-clause-refused c =
+    split_refused c.args.counts c.args.m.now c.args.r.now c.as_slice.result.now c.in-Some.place c.split_status.result
+    c.as_slice.ensures.value c.in-Some.ensures.some c.split_status.ensures
+
+pub plain_log-requires-clause-plain : goal.plain_log-requires-clause-plain
+plain_log-requires-clause-plain c = subst HasNoSplit c.as_slice.ensures.value c.in-None.ensures.none
