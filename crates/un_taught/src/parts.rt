@@ -76,7 +76,7 @@ static LISTING: [Form; 3] = [
         head: "frame",
         count: 2,
         numbers: true,
-        text: "`frame F`, a multiple of 8 up to 256",
+        text: "`frame F`, a multiple of 8 up to 1024",
     },
     Form {
         head: "block",
@@ -93,12 +93,12 @@ static LISTING: [Form; 3] = [
 ];
 
 /// The lines of a report.
-static REPORT: [Form; 16] = [
+static REPORT: [Form; 18] = [
     Form {
         head: "unison",
         count: 2,
         numbers: false,
-        text: "`unison V`, V from 1 to 2",
+        text: "`unison V`, V from 1 to 3",
     },
     Form {
         head: "function",
@@ -140,7 +140,7 @@ static REPORT: [Form; 16] = [
         head: "frame",
         count: 2,
         numbers: true,
-        text: "`frame F`, a multiple of 8 up to 256",
+        text: "`frame F`, a multiple of 8 up to 1024",
     },
     Form {
         head: "block",
@@ -183,6 +183,18 @@ static REPORT: [Form; 16] = [
         count: 1,
         numbers: true,
         text: "`O`, an open leaf",
+    },
+    Form {
+        head: "S",
+        count: 1,
+        numbers: true,
+        text: "`S`, a split",
+    },
+    Form {
+        head: "P",
+        count: 2,
+        numbers: false,
+        text: "`P N` or `P -`, where the part of a block begins",
     },
     Form {
         head: "end",
