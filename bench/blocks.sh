@@ -1,10 +1,9 @@
 #!/usr/bin/env bash
 # Prints the time and the peak memory of `alloc` on blocks of 10, 20, 40 and 80 operations, beside those of the smallest
-# text. Run it by hand after `./unison alloc examples/sum.uni` has built the program; the gate does not run it.
+# text. Run it by hand; the gate does not run it.
 set -eu
 top=$(cd "$(dirname "$0")/.." && pwd)
-binary=$top/crates/unison/out/unison
-[ -x "$binary" ] || { echo "build the program first: ./unison alloc examples/sum.uni" >&2; exit 1; }
+binary=$("$top/tools/programs.py" unison)
 
 . "$top/bench/block.sh"
 

@@ -4,14 +4,16 @@
 For the examples and for functions that functions.py writes (FUNCTIONS of each kind, 12 without it; 0 for the examples alone): the report
 that `alloc` prints with NODES nodes (2,000 without it) is checked. A line each has the nodes of its tree, the milliseconds of the
 processor for `alloc` and for `check`, the best of three runs, and their ratio; then come sums and the greatest ratio. Then trees that no
-search made, with the megabytes that the check takes: a path of 819 branches, and a balanced tree of 199,999 nodes. PROGRAM is
-crates/unison/out/unison without it. The gate does not run it.
+search made, with the megabytes that the check takes: a path of 819 branches, and a balanced tree of 199,999 nodes. Without PROGRAM it is
+the built one, or one that is compiled without a proof. The gate does not run it.
 """
 import glob
 import os
 import subprocess
 import sys
 import tempfile
+
+import functions
 
 TOP = os.path.dirname(os.path.dirname(os.path.realpath(__file__)))
 SMALLEST = "func f\nblock e freq 1\n  ret\n"
@@ -87,7 +89,7 @@ def spent(tree):
 
 def main():
     words = sys.argv[1:]
-    program = os.path.realpath(words[0] if words else f"{TOP}/crates/unison/out/unison")
+    program = os.path.realpath(words[0]) if words else functions.program("unison")
     nodes = int(words[1]) if len(words) > 1 else 2000
     count = int(words[2]) if len(words) > 2 else 12
     files = sorted(glob.glob(f"{TOP}/examples/*.uni"))

@@ -4,18 +4,15 @@
 Runs `inspect first` on the functions of folders (the examples, the kernels and those of functions.py where none is named), and prints for
 each what the first solution costs, the root's bound, the cost of keeping each name in a frame slot, and the milliseconds of the first
 solution alone; and for each group the geometric means of cost over bound and of cost over that of the frame slots, how many meet the bound,
-the mean and the greatest time, and how many functions had none or one that was refused. Run it by hand, after `./unison build inspect`; the
-gate does not run it.
+the mean and the greatest time, and how many functions had none or one that was refused. Run it by hand.
 """
-import os
 import re
 import subprocess
 import sys
 
 import functions
 
-TOP = os.path.dirname(os.path.dirname(os.path.realpath(__file__)))
-BINARY = f"{TOP}/crates/inspect/out/inspect"
+BINARY = functions.program("inspect")
 
 
 def first(text, trials):

@@ -15,6 +15,14 @@ import random
 import sys
 import tempfile
 
+sys.path.append(f"{os.path.dirname(os.path.dirname(os.path.realpath(__file__)))}/tools")
+import programs
+
+
+def program(name):
+    """The path of a program: proved where it is built, or else compiled without a proof."""
+    return programs.path_of(name)
+
 
 class Draws:
     """The numbers that a linear generator gives, each below a bound."""

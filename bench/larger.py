@@ -2,8 +2,8 @@
 """How `alloc` and `check` grow: larger.py [--write FOLDER | PROGRAM [NAME..]].
 
 Functions of 80, 200 and 400 operations in 1, 16 and 64 blocks, with calls and without, some of one pattern and some drawn, blocks in which
-80, 90 and 110 names cross a call, and a block of 80 calls with six arguments each. For each it prints, of the program (an unproved one
-where none is named), the cost with 3 nodes and with 2,000, the bound, and seconds of the processor and megabytes at most: `alloc` with 3
+80, 90 and 110 names cross a call, and a block of 80 calls with six arguments each. For each it prints, of the program (PROGRAM, or the
+built one, or one that is compiled without a proof), the cost with 3 nodes and with 2,000, the bound, and seconds of the processor and megabytes at most: `alloc` with 3
 nodes, with 2,000, and `check` of the latter's report. --write writes the functions into a folder. The gate does not run it.
 """
 import dataclasses
@@ -79,11 +79,6 @@ def number(field, report):
     return int(found[1]) if found else -1
 
 
-def unproved():
-    """The program, compiled without a proof."""
-    return subprocess.run([f"{TOP}/tools/unproved.py", "unison"], stdout=subprocess.PIPE, text=True, check=True).stdout.strip()
-
-
 def main():
     if sys.argv[1:2] == ["--write"]:
         os.makedirs(sys.argv[2], exist_ok=True)
@@ -91,7 +86,7 @@ def main():
             with open(f"{sys.argv[2]}/{name}.uni", "w", encoding="utf-8") as file:
                 file.write(text)
         return
-    program = sys.argv[1] if len(sys.argv) > 1 else unproved()
+    program = sys.argv[1] if len(sys.argv) > 1 else functions.program("unison")
     print(f"{'':24} {'first':>9} {'cost':>9} {'bound':>9} {'nodes':>6}  "
           f"{'s, 3':>7} {'s, 2000':>8} {'s, check':>8} {'MB':>6} {'MB check':>8}")
     for name, text in texts().items():

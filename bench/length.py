@@ -5,8 +5,8 @@ Runs `alloc` under valgrind's callgrind on functions (the examples where none is
 how many runs of Length there were for each of them, the rounds from the root with them, thousands of instructions that a run takes for its
 counts over intervals, and their share of all instructions. A run counts each resource of packets in turn until there is no room, so its
 first count is the place in the code from which most counts are asked for. Under callgrind the program takes some fifty times as long. Run
-it by hand; the gate does not run it. UNISON names another program than the built one, in which the compiler may have left no functions of
-these names: `tools/unproved.py unison` prints one that has them.
+it by hand; the gate does not run it. Where the program is built, the compiler may have left no functions of these names in it: UNISON
+names another one, and `tools/unproved.py unison` prints one that has them.
 """
 import glob
 import os
@@ -15,8 +15,10 @@ import subprocess
 import sys
 import tempfile
 
+import functions
+
 TOP = os.path.dirname(os.path.dirname(os.path.realpath(__file__)))
-BINARY = os.environ.get("UNISON", f"{TOP}/crates/unison/out/unison")
+BINARY = os.environ.get("UNISON") or functions.program("unison")
 DECISION, COUNT = "run_child", "un_length::crowd::fits"
 
 

@@ -6,8 +6,7 @@
 # numbers as its words say how often the parts of `alloc` are called, 200 times without it, and how often `post`, 10 times without it.
 set -eu
 top=$(cd "$(dirname "$0")/.." && pwd)
-binary=$top/crates/inspect/out/inspect
-[ -x "$binary" ] || (cd "$top/crates/inspect" && rt run -- arcs <stdin >/dev/null)
+binary=$("$top/tools/programs.py" inspect)
 
 sizes=("5 1" "10 2" "20 1" "20 4" "40 8" "65 16" "80 1" "80 16")
 

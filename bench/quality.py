@@ -4,9 +4,8 @@
 Runs the program on the functions of folders (the examples, the kernels and those of functions.py where none is named), and prints for
 each its cost, bound, the cost of keeping each name in a frame slot, nodes of the tree and milliseconds, and for each group the geometric
 means of cost over bound and of cost over that of the frame slots, how many meet their bound, and the mean and the greatest time. Run it by
-hand, on a built program; the gate does not run it.
+hand; the gate does not run it.
 """
-import os
 import re
 import subprocess
 import sys
@@ -14,8 +13,7 @@ import time
 
 import functions
 
-TOP = os.path.dirname(os.path.dirname(os.path.realpath(__file__)))
-BINARY = f"{TOP}/crates/unison/out/unison"
+BINARY = functions.program("unison")
 
 
 def report(text, nodes):

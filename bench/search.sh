@@ -5,8 +5,7 @@
 # the gate does not run it. A number as its word says how many marks there are, and how many cuts of each variable, 500 without it.
 set -eu
 top=$(cd "$(dirname "$0")/.." && pwd)
-binary=$top/crates/inspect/out/inspect
-[ -x "$binary" ] || (cd "$top/crates/inspect" && rt run -- arcs <stdin >/dev/null)
+binary=$("$top/tools/programs.py" inspect)
 
 for links in 1000 4000 16000; do
   echo "$links precedences"

@@ -5,8 +5,8 @@ The report that `alloc` prints with NODES nodes (2,000 without it) of each funct
 functions.py where none is named) is asked for its log by the twelve rules, and with `--counts` by all thirteen; each log is judged by
 `steps --check`. A line each has the lines of both logs, `-` where there is none, and the milliseconds of the processor for `check`, for
 `steps` and for `steps --check`. Then comes for each group how many reports have no open leaf, how many have a log by each set of rules,
-the lines of a log in the median and at most, and the sums of times. PROGRAM of the environment is crates/unison/out/unison without it.
-The gate does not run it.
+the lines of a log in the median and at most, and the sums of times. PROGRAM of the environment names another program than the built
+one, or the one that is compiled without a proof. The gate does not run it.
 """
 import os
 import statistics
@@ -16,8 +16,7 @@ import tempfile
 
 import functions
 
-TOP = os.path.dirname(os.path.dirname(os.path.realpath(__file__)))
-PROGRAM = os.path.realpath(os.environ.get("PROGRAM", f"{TOP}/crates/unison/out/unison"))
+PROGRAM = os.path.realpath(os.environ.get("PROGRAM") or functions.program("unison"))
 DONE, NO_LOG = 0, 13
 
 

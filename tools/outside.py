@@ -19,6 +19,9 @@ import subprocess
 import sys
 import tempfile
 
+import children
+import programs
+
 TOP = os.path.dirname(os.path.dirname(os.path.realpath(__file__)))
 MEMORY = 0x100000  # where the words of a start lie
 WORDS = 512
@@ -34,15 +37,6 @@ def tool(name, package):
         if found:
             return found
     sys.exit(f"outside.py: there is no {name}: apt-get install {package}")
-
-
-def program(name):
-    """A program of this repository: as it is built, or else as it is compiled without a proof."""
-    for path in (f"{TOP}/crates/{name}/out/{name}", f"{TOP}/crates/{name}/out/unproved/{name}-fast"):
-        if os.access(path, os.X_OK):
-            return path
-    made = subprocess.run([f"{TOP}/tools/unproved.py", name], capture_output=True, text=True, check=True)
-    return made.stdout.strip()
 
 
 def signed(word):
@@ -196,8 +190,8 @@ class Outside:
         self.linker = tool("ld.lld", "lld")
         self.emulator = tool("qemu-hexagon", "qemu-user")
         self.compiler = tool("clang", "clang") if with_c else None
-        self.unison = program("unison")
-        self.bridge = program("bridge")
+        self.unison = programs.path_of("unison")
+        self.bridge = programs.path_of("bridge")
         with open(f"{folder}/script", "w", encoding="utf-8") as script:
             script.write(LINKED)
         self.beside = [self.compiled(BESIDE)] if with_c else []
@@ -363,12 +357,16 @@ def main():
     count, compiled = Count(), Count()
     with tempfile.TemporaryDirectory() as folder:
         outside = Outside(folder, with_c)
-        for path in files:
-            if with_c:
-                try_c(outside, path, count, compiled)
-            else:
-                with open(path, encoding="utf-8") as source:
-                    try_source(outside, os.path.basename(path), source.read(), count)
+        children.end_on_signals()
+        try:
+            for path in files:
+                if with_c:
+                    try_c(outside, path, count, compiled)
+                else:
+                    with open(path, encoding="utf-8") as source:
+                        try_source(outside, os.path.basename(path), source.read(), count)
+        except children.Interrupted:
+            print(f"interrupted at {os.path.basename(path)}; so far:")
     print(f"functions {count.functions}, packets {count.packets}, messages of the assembler {count.messages}, "
           f"runs {count.runs}, equal {count.equal}")
     if with_c:
