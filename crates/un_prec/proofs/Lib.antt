@@ -1,3 +1,4 @@
 pub mod Ends
+pub mod Idle
 pub mod InTime
 pub mod Looser

@@ -1,8 +1,14 @@
 //! A precedence: one operation at least so much after another.
 
-ghost use Rattle.std.specs.Prelude.{◌≡◌};
+ghost use Rattle.std.specs.Prelude.{◌≡◌, ◌≢◌, ◌≤◌, ℕ, List, length, true, false};
+ghost use Rattle.un_domains.specs.Sets.{IsIn, NoneEmpty};
+ghost use Rattle.un_prop.specs.Acts.{act_vars, is_active};
+ghost use Rattle.un_prop.specs.Going.{Goes};
+ghost use Rattle.un_prop.specs.Last.{last_cut};
 ghost use Rattle.un_prop.specs.LastLaws.{Ascend};
-ghost use Rattle.un_prec.specs.Before.{BeforeVars};
+ghost use Rattle.un_prop.specs.Rounds.{HasVars};
+ghost use Rattle.un_prop.specs.declared.propagator.Pruned.TheVariants.{Failed};
+ghost use Rattle.un_prec.specs.Before.{BeforeVars, before_holds};
 
 use crate::link::{Link, keeps_gap};
 use crate::rules::keep_link;
@@ -58,6 +64,43 @@ impl Predicate for Before {
     ghost looks = { λ p x y same. before_looks p.vars p.a p.a_on p.b p.b_on p.gap p.among x y same };
 }
 
+/// Whether an activity is off, whatever the assignment.
+fn is_off(w: &Window<'_>, on: Act) -> bool
+    requires known { HasVars (act_vars on) w.now.store.now.sets }
+    requires live { NoneEmpty w.now.store.now.sets }
+    ensures { result ≡ true → (x : List ℕ) → IsIn x w.now.store.now.sets → is_active on x ≡ false }
+{
+    match on {
+        Act::Always => false,
+        Act::Var(v) => w.max(v) == 0,
+    }
+}
+
+/// Checks the last variable of a precedence, unless an operation is off: each cycle of the other will do then.
+fn check_active(p: &Before, w: &mut Window<'_>, scratch: &mut Scratch, before: Pruned) -> Pruned
+    requires vars { w.old.vars.now ≡ p.now.vars }
+    requires known { HasVars p.now.vars w.old.store.now.sets }
+    requires live { before ≢ Failed → NoneEmpty w.old.store.now.sets }
+    requires room { length w.old.store.now.sets ≤ length scratch.old.fixed.items }
+    ensures goes { Goes w.old.vars.now (last_cut p.now.vars (before_holds p.now.a p.now.a_on p.now.b p.now.b_on p.now.gap)) w.old.store.now
+        w.new.store.now before result }
+    ensures fixed { length scratch.new.fixed.items ≡ length scratch.old.fixed.items }
+    ensures cycles { length scratch.new.cycles.items ≡ length scratch.old.cycles.items }
+    ensures same_reference { w.new.store.ghost_name ≡ w.old.store.ghost_name }
+    ensures vars { w.new.vars ≡ w.old.vars }
+{
+    if before == Pruned::Failed {
+        return before;
+    }
+    if is_off(w, p.a_on) {
+        return before;
+    }
+    if is_off(w, p.b_on) {
+        return before;
+    }
+    check_last(p, w, scratch, before)
+}
+
 impl Propagator for Before {
     ghost use Rattle.un_prop.specs.Last.{last_cut};
     ghost use Rattle.un_prop.specs.PartLaws.{one_part, one_whole, lawful_checked, keeps_checked, forward_checked, stable_first};
@@ -84,7 +127,7 @@ impl Propagator for Before {
             gap: self.gap,
         };
         let did = keep_link(w, Pruned::Same, link);
-        check_last(self, w, scratch, did)
+        check_active(self, w, scratch, did)
     }
 
     ghost keeps = { λ p s x k full there holds. keeps_checked p.vars (before_holds p.a p.a_on p.b p.b_on p.gap)

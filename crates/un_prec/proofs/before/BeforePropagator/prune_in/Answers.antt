@@ -18,13 +18,13 @@ returns-clause-prune c =
     let p = c.args.self.now in
     let old = c.args.w.now.store.now in
     let mid = c.keep_link-did.new.w.store.now in
-    let new = c.check_last.new.w.store.now in
+    let new = c.check_active.new.w.store.now in
     let did = c.keep_link-did.result in
     let l = before_link p.a p.a_on p.b p.b_on p.gap in
     let t = before_holds p.a p.a_on p.b p.b_on p.gap in
     let step = subst (λ (us : List VarId). Stepped us (link_steps us l) old mid Same did) c.requires.vars c.keep_link-did.ensures.step in
-    let last = subst (λ (us : List VarId). Goes us (last_cut p.vars t) mid new did c.check_last.result)
-    (ap (λ r. r.now) c.keep_link-did.ensures.vars ∙ c.requires.vars) c.check_last.ensures.goes in
-    checked p.vars p.vars (λ s. option_and_then (last_cut p.vars t) (link_steps p.vars l s)) old new c.check_last.result refl
+    let last = subst (λ (us : List VarId). Goes us (last_cut p.vars t) mid new did c.check_active.result)
+    (ap (λ r. r.now) c.keep_link-did.ensures.vars ∙ c.requires.vars) c.check_active.ensures.goes in
+    checked p.vars p.vars (λ s. option_and_then (last_cut p.vars t) (link_steps p.vars l s)) old new c.check_active.result refl
     c.requires.live
-    (goes_chain p.vars (link_steps p.vars l) (last_cut p.vars t) old mid new Same did c.check_last.result step last)
+    (goes_chain p.vars (link_steps p.vars l) (last_cut p.vars t) old mid new Same did c.check_active.result step last)
