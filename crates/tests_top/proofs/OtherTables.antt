@@ -1,5 +1,5 @@
 -- Tables of other processors are ones that the compiler works for.
-use Rattle.std.proofs.Common.{ℕ, zero, suc, ◌≡◌, ◌<◌, Bool, true, false, ◌&&◌, not, slice_get, Some, IsSomeAnd, map, refl, arith, lit<, lit≤}
+use Rattle.std.proofs.Common.{ℕ, zero, suc, ◌≡◌, ◌<◌, Bool, true, false, ◌&&◌, not, map, refl, arith, lit<, lit≤}
 use Rattle.std.proofs.Common.{◌⊎◌, inl, inr}
 use Rattle.std.specs.Prelude.{nat_eq}
 use Rattle.std.specs.Bool.{OnTrue}
@@ -10,7 +10,7 @@ use Rattle.un_isa.specs.declared.op.Op.TheVariants.{Imm, Mpyi}
 use Rattle.un_isa.specs.declared.reg.TheConstants.{REGISTERS}
 use Rattle.un_isa.specs.declared.table.Table.{Table}
 use Rattle.un_isa.specs.Starts.{is_clobbered}
-use Rattle.un_isa.specs.Tables.{number_of, latency_of, in_mask}
+use Rattle.un_isa.specs.Tables.{latency_of, in_mask}
 use Rattle.un_isa.specs.Facts.{all_ops}
 use Rattle.un_isa.specs.Hexagon.{HEXAGON, is_saved}
 use Rattle.un_isa.specs.Fit.{IsFit, IsFitLatency, is_quick, may_be_saved}

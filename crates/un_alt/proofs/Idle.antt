@@ -1,6 +1,6 @@
 -- What a flag that says nothing yet leaves as it is.
 use Rattle.std.proofs.Common.{ℕ, Bool, true, false, List, [], ◌∷◌, ◌≡◌, ◌<◌, ◌&&◌, ◌∙◌, ◌-◌, All, Some, option_and_then, refl, ap}
-use Rattle.std.proofs.Common.{not, nat_eq, nat_le, arith}
+use Rattle.std.proofs.Common.{not, nat_eq, arith}
 use Rattle.std.proofs.lemmas.Bool.Decides.{nat_tests}
 use Rattle.std.specs.declared.option.Option.{Option}
 use Rattle.std.specs.List.{AllByRecursion}

@@ -1,5 +1,5 @@
 -- Orders as the code has them.
-use Rattle.std.proofs.Common.{ℕ, ◌≡◌, ◌≢◌, ◌+◌, Bool, true, false, nat_le, nat_lt, sym, arith}
+use Rattle.std.proofs.Common.{ℕ, ◌≡◌, ◌≢◌, ◌+◌, false, nat_le, nat_lt, sym, arith}
 use Rattle.std.proofs.lemmas.Bool.Decides.{nat_tests}
 use Rattle.un_domains.specs.OrderLaws.{same_test}
 use denote.Enum.Bare.{sameb, same_false}

@@ -1,5 +1,5 @@
 -- The laws of Chosen.
-use Rattle.std.proofs.Common.{ℕ, zero, suc, ◌≡◌, ◌≤◌, ◌&&◌, subst, Bool, true, not, ◌||◌, List, [], ◌∷◌, get_or, nat_eq, nat_lt, ap}
+use Rattle.std.proofs.Common.{ℕ, zero, suc, ◌≡◌, ◌≤◌, subst, Bool, true, not, ◌||◌, List, [], ◌∷◌, get_or, nat_eq, nat_lt, ap}
 use Rattle.std.proofs.Common.{arith, ◌∙◌}
 use Rattle.std.proofs.lemmas.Bool.Decides.{nat_tests}
 use Rattle.un_domains.specs.Sets.{Sets, greatest, IsIn, Kept}
@@ -20,7 +20,7 @@ use Rattle.un_prop.specs.declared.act.Act.TheVariants.{Always, Var}
 use Rattle.std.proofs.lemmas.List.Elements.{recursion_from_All}
 use Rattle.std.specs.List.{AllByRecursion}
 use Rattle.un_base.specs.declared.ids.VarId.{VarId}
-use Rattle.un_prop.specs.Among.{AllAmong, among}
+use Rattle.un_prop.specs.Among.{AllAmong}
 use Rattle.un_prop.specs.AmongLaws.{same_var, same_active, has_among}
 use Rattle.un_prop.specs.Parts.{SameAt}
 use Rattle.un_prop.specs.Acts.{act_vars, act_number, is_active}

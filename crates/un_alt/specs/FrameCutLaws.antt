@@ -1,16 +1,15 @@
 -- Laws of what Frame lets a store keep.
-use Rattle.std.proofs.Common.{ℕ, ◌≡◌, ◌≢◌, ◌<◌, ◌≤◌, ◌+◌, ◌-◌, ◌^◌, ◌∙◌, Bool, true, false, cond, not, ◌&&◌, ◌||◌, List, [], ◌∷◌, length}
-use Rattle.std.proofs.Common.{get_or, All, nat_eq}
-use Rattle.std.proofs.Common.{nat_le, nat_lt, option_and_then, None, Some, refl, sym, ap, subst, arith}
+use Rattle.std.proofs.Common.{ℕ, ◌≡◌, ◌≢◌, ◌≤◌, ◌+◌, ◌-◌, ◌^◌, Bool, true, false, cond, not, ◌&&◌, ◌||◌, List, [], ◌∷◌}
+use Rattle.std.proofs.Common.{get_or, nat_eq}
+use Rattle.std.proofs.Common.{nat_le, nat_lt, option_and_then, None, Some, refl, ap, subst, arith}
 use Rattle.std.specs.declared.option.Option.{Option}
 use Rattle.std.specs.Option.{ForSome}
 use Rattle.std.specs.List.{AllByRecursion, list_any, list_all}
 use Rattle.std.proofs.lemmas.Bool.Decides.{nat_tests}
 use Rattle.std.proofs.lemmas.List.Elements.{recursion_from_All}
 use Rattle.un_base.specs.declared.ids.VarId.{VarId}
-use Rattle.un_domains.specs.Sets.{Sets, set_at, has, least, greatest, IsIn, NoneEmpty, Kept}
+use Rattle.un_domains.specs.Sets.{Sets, set_at, has, least, greatest, IsIn, Kept}
 use Rattle.un_domains.specs.SetLaws.{least-le, has-fold_max}
-use Rattle.un_domains.specs.Order.{Below}
 use Rattle.un_domains.specs.OrderLaws.{least_below, greatest_below, has_below}
 use Rattle.un_isa.specs.declared.reg.TheConstants.{FIRST_SLOT}
 use Rattle.un_prop.specs.Rounds.{HasVars, round}
@@ -19,7 +18,7 @@ use Rattle.un_prop.specs.Steps.{lawful_then, lawful_each, lawful_some}
 use Rattle.un_prop.specs.EachLaws.{each_kept}
 use Rattle.un_prop.specs.ChainLaws.{then_kept, known_in}
 use Rattle.un_prop.specs.ChoiceLaws.{map_all}
-use Rattle.un_prop.specs.LookLaws.{not_or, or_not, both, firsts, not_true, not_from, set_alike, number_in}
+use Rattle.un_prop.specs.LookLaws.{not_or, or_not, both, firsts, not_true, not_from, set_alike}
 use Rattle.un_prop.specs.Looks.{act_set}
 use Rattle.un_prop.specs.Among.{among, AllAmong}
 use Rattle.un_prop.specs.AmongLaws.{has_among}

@@ -10,7 +10,6 @@ use Rattle.un_prop.specs.Acts.{act_vars, act_number}
 use Rattle.un_prop.specs.Looks.{act_set}
 use Rattle.un_prop.specs.Rounds.{round}
 use Rattle.un_prop.specs.When.{is_only, when_cut, other_than, up_to}
-use Rattle.un_prop.specs.declared.act.Act.{Act}
 use Rattle.un_prop.specs.declared.act.Act.TheVariants.{Always}
 use Rattle.un_alt.specs.declared.frame.FrameOp.{FrameOp}
 use Rattle.un_alt.specs.declared.frame.FrameUse.{FrameUse}

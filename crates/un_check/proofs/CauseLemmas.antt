@@ -8,14 +8,13 @@ use Rattle.un_outside.specs.declared.status.NoCause.{NoCause}
 use Rattle.un_outside.specs.declared.status.NoCause.TheVariants.{Name, Solution as Numbers, Cost, Listing, Strict, Split as Parted, Alive, Closed as Refuted}
 use Rattle.un_outside.specs.declared.status.NoCause.TheVariants.{Mirror, Short as Torn, Spent as Leaves, Bound}
 use Rattle.un_packet.specs.declared.code.Code.{Code as CodeValue}
-use Rattle.un_model.specs.Solutions.{IsSolution, ListsBroken, Tells, broken_clauses, latency_gap}
+use Rattle.un_model.specs.Solutions.{IsSolution, Tells, broken_clauses, latency_gap}
 use Rattle.un_model.specs.Schedules.{schedule_of}
 use Rattle.un_model.specs.declared.model.Model.{Model}
 use Rattle.un_model.specs.declared.model.Options.{Options}
 use Rattle.un_model.specs.declared.model.Solution.{Solution}
 use Rattle.un_model.specs.declared.verdict.Verdict.{Verdict}
 use Rattle.un_violations.proofs.Verdicts.{unbroken}
-use Rattle.un_problem.specs.Problems.{IsModelOf}
 use Rattle.un_tree.specs.declared.node.Node.{Node}
 use Rattle.un_certificate.specs.Joints.{visits_in, IsTreeIn}
 use Rattle.un_report.specs.declared.report.Answered.{Answered}

@@ -1,8 +1,7 @@
 -- How far the check of a tree's text has come.
 use Rattle.std.proofs.Common.{length, length-append, ◌<◌, ◌≤◌, ◌+◌, arith, ℕ, ◌≡◌, ◌⊎◌, List, [], ◌∷◌, ◌++◌, All, inl, inr, refl, sym, ap, ◌∙◌, subst, append_assoc}
 use Rattle.std.specs.declared.option.Option.{Option}
-use Rattle.std.specs.List.{AllByRecursion}
-use Rattle.std.proofs.lemmas.List.Elements.{recursion_from_All, All-from_recursion, All-tail, All-head, All-push, All-nil}
+use Rattle.std.proofs.lemmas.List.Elements.{recursion_from_All, All-tail, All-head, All-push, All-nil}
 use Rattle.un_model.specs.declared.model.Model.{Model}
 use Rattle.un_tree.specs.Texts.{Fits, node_line, tree_text, BeginsNoNode, BeginsWith}
 use Rattle.un_tree.specs.declared.node.Node.{Node}

@@ -1,5 +1,5 @@
 -- A report that is right is sound.
-use Rattle.std.proofs.Common.{ℕ, ◌≡◌, ◌∙◌, List, Option, Ok, Err, MatchResult, OnOk, All, ap, sym, subst}
+use Rattle.std.proofs.Common.{ℕ, ◌≡◌, ◌∙◌, List, Ok, Err, MatchResult, OnOk, ap, subst}
 use Rattle.std.specs.declared.result.Result.{Result}
 use Rattle.un_ir.specs.declared.function.Function.{Function}
 use Rattle.un_outside.specs.declared.status.NoCause.{NoCause}

@@ -1,5 +1,5 @@
 -- The report of a search has no cause.
-use Rattle.std.proofs.Common.{ℕ, ◌≡◌, List, Ok, Err, inl, inr, refl, sym, subst}
+use Rattle.std.proofs.Common.{◌≡◌, List, Ok, Err, inl, inr, refl, sym, subst}
 use Rattle.std.specs.declared.result.Result.{Result}
 use Rattle.un_isa.specs.declared.table.Table.{Table}
 use Rattle.un_ir.specs.declared.function.Function.{Function}
@@ -12,7 +12,7 @@ use Rattle.un_certificate.specs.Certificates.{IsCertificate}
 use Rattle.un_report.specs.declared.report.Answered.{Answered}
 use Rattle.un_report.specs.declared.report.Answered.TheVariants.{Code, Infeasible, Spent}
 use Rattle.un_report.specs.declared.report.Report.{Report}
-use Rattle.un_check.specs.Causes.{claim_of, limit_of, FitsAnswer, HasRightBound, HasRightLeaves, HasCause, IsCause, IsRightAnswer, IsTold}
+use Rattle.un_check.specs.Causes.{claim_of, limit_of, FitsAnswer, HasRightBound, HasCause, IsCause, IsRightAnswer, IsTold}
 use Rattle.un_check.specs.Sound.{IsSoundAnswer, IsSoundFor}
 use Rattle.un_check.proofs.CauseLemmas.{Stage, stage, answer_not, tree_not}
 use Rattle.un_check.proofs.OneModel.{model_one}

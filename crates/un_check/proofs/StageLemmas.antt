@@ -2,9 +2,8 @@
 use Rattle.std.proofs.Common.{ℕ, zero, suc, ◌≡◌, ◌<◌, ◌≤◌, ◌+◌, ◌-◌, Bool, true, false, List, [], ◌∷◌, ◌++◌, map, Some, None, Ok, Err, OnOk, refl, sym, ap, subst, ◌∙◌, arith}
 use Rattle.std.specs.declared.option.Option.{Option}
 use Rattle.std.specs.declared.result.Result.{Result}
-use Rattle.un_base.specs.declared.ids.VarId.{VarId}
 use Rattle.un_domains.specs.Sets.{Sets}
-use Rattle.un_tree.specs.Boxes.{Splits, half, reached}
+use Rattle.un_tree.specs.Boxes.{reached}
 use Rattle.un_tree.specs.Waits.{Waiting, Whole, Begins, Inside, IsPlain, HasSidesIn, MayStand, after, begins}
 use Rattle.un_tree.specs.declared.node.Decision.{Decision}
 use Rattle.un_tree.specs.declared.node.Node.{Node}
@@ -19,7 +18,7 @@ use Rattle.un_walk.proofs.RouteLemmas.{after_by}
 use Rattle.un_check.specs.Steps.{CanPass, CanStep, number_at, outer_stage, over_waits}
 use Rattle.un_check.specs.Walks.{IsStageAt, behind, here, in_part, parts_from, stage_waits}
 use Rattle.un_check.specs.declared.stage.Stage.{Stage}
-use Rattle.un_check.specs.declared.stage.Stage.TheVariants.{AtBox, AtPart, InPart, AtEnd}
+use Rattle.un_check.specs.declared.stage.Stage.TheVariants.{InPart}
 
 -- ---- from part to part
 

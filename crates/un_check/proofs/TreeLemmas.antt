@@ -2,7 +2,6 @@
 use Rattle.std.proofs.Common.{ℕ, zero, suc, arith, ◌≡◌, ◌<◌, ◌≤◌, ◌+◌, List, [], ◌∷◌, length, drop, get_or, None, Some, MatchOption, add-one, refl, sym, ap, subst, ◌∙◌}
 use Rattle.std.specs.declared.option.Option.{Option}
 use Rattle.std.proofs.Math.Seq.{drop-cons}
-use Rattle.un_domains.specs.Sets.{NoneEmpty}
 use Rattle.un_model.specs.declared.model.Model.{Model}
 use Rattle.un_tree.specs.Parts.{part_numbers, told as told_parts}
 use Rattle.un_tree.specs.declared.node.Node.{Node}
@@ -10,9 +9,7 @@ use Rattle.un_tree.specs.declared.node.Node.TheVariants.{Split}
 use Rattle.un_tree.specs.declared.parts.Parts.{Parts}
 use Rattle.un_certificate.specs.Joints.{blocks_of}
 use Rattle.un_check.specs.Judging.{IsBehind}
-use Rattle.un_check.specs.Verdicts.{IsVerdict}
 use Rattle.un_check.specs.Walks.{IsWalk}
-use Rattle.un_check.specs.declared.verdict.TreeVerdict.{TreeVerdict}
 use Rattle.un_check.specs.declared.walk.Walk.{Walk}
 
 pub next_walk : (m : Model) (limit : Option ℕ) (nodes read : List Node) (i : ℕ) (d : Node) (w : Walk) → read ≡ nodes → i < length read

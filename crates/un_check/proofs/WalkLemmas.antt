@@ -1,5 +1,5 @@
 -- How far the check of a tree has come, node after node.
-use Rattle.std.proofs.Common.{ℕ, zero, ◌≡◌, ◌≢◌, ◌≤◌, ◌+◌, Bool, true, false, cond, List, [], ◌∷◌, ◌++◌, length, None, Some, All, min}
+use Rattle.std.proofs.Common.{ℕ, ◌≡◌, ◌≢◌, ◌≤◌, ◌+◌, cond, List, [], ◌∷◌, ◌++◌, length, None, Some, All, min}
 use Rattle.std.proofs.Common.{Contains, refl, sym, ap, subst, ◌∙◌, append_assoc, length-append, inl, inr, arith}
 use Rattle.std.specs.declared.option.Option.{Option}
 use Rattle.std.proofs.lemmas.Bool.{cases_lt}
@@ -20,9 +20,9 @@ use Rattle.un_certificate.proofs.Lowest.{lower, other_least}
 use Rattle.un_certificate.specs.Bounds.{IsLeastOpen}
 use Rattle.un_certificate.specs.Certificates.{IsAlive, IsStanding}
 use Rattle.un_certificate.specs.Joints.{blocks_of, visits_in, IsTreeIn, IsOwn, AreJoined}
-use Rattle.un_model.specs.Boxes.{IsBelow, root_of}
+use Rattle.un_model.specs.Boxes.{IsBelow}
 use Rattle.un_stand.specs.Rooms.{path_of}
-use Rattle.un_check.specs.Judging.{IsBehind, IsFound, IsJudged}
+use Rattle.un_check.specs.Judging.{IsFound, IsJudged}
 use Rattle.un_check.specs.Seen.{IsSeen}
 use Rattle.un_check.specs.Steps.{CanPass}
 use Rattle.un_check.specs.Verdicts.{Keeps, KeepsIn, IsRightNode, BreaksIn, IsFirstBreak, IsNo, IsVerdict, OnYes}
@@ -30,7 +30,6 @@ use Rattle.un_check.specs.Walks.{IsWalk, behind, behind_of, box_of, here, here_o
 use Rattle.un_check.specs.declared.judge.Judged.TheVariants.{Broken, Kept, Leaf}
 use Rattle.un_check.specs.declared.stage.Stage.{Stage}
 use Rattle.un_check.specs.declared.stage.Stage.TheVariants.{AtBox, AtPart, InPart, AtEnd}
-use Rattle.un_check.specs.declared.tree.Seen.{Seen}
 use Rattle.un_check.specs.declared.verdict.TreeVerdict.{TreeVerdict}
 use Rattle.un_check.specs.declared.verdict.TreeVerdict.TheVariants.{Yes, NotStrict, NotSplit, NotAlive, NotClosed, Short}
 use Rattle.un_check.specs.declared.walk.Walk.{Walk}

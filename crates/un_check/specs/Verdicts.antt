@@ -8,7 +8,7 @@ use Rattle.un_post.specs.Posts.{fix_at}
 use Rattle.un_tree.specs.Parts.{IsRightIn}
 use Rattle.un_tree.specs.Waits.{Waiting, Whole, Inside, Visit, IsStrictIn, open_count}
 use Rattle.un_tree.specs.declared.node.Node.{Node}
-use Rattle.un_tree.specs.declared.node.Node.TheVariants.{Branch, Closed, Open, Split, Part}
+use Rattle.un_tree.specs.declared.node.Node.TheVariants.{Closed, Split}
 use Rattle.un_certificate.specs.Bounds.{IsLeastOpen}
 use Rattle.un_certificate.specs.Certificates.{IsAliveIn}
 use Rattle.un_certificate.specs.Joints.{blocks_of, visits_in, IsTreeIn, IsOwn, AreJoined}

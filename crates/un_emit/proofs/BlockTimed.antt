@@ -1,7 +1,7 @@
 -- A block of a solution is a timed block.
 use Rattle.std.proofs.Common.{ℕ, zero, suc, ◌≡◌, ◌≢◌, ◌<◌, ◌≤◌, ◌+◌, Bool, true, false, cond, ◌&&◌, ◌||◌, List, [], ◌∷◌, length, map, ◌⊎◌}
 use Rattle.std.proofs.Common.{inl, inr, ⊎_elim, refl, sym, ap, ◌∙◌, subst, arith, All}
-use Rattle.std.specs.Prelude.{Option, Some, None, slice_get, slice_index_or, unwrap_or, is_some, ◌==◌, if◌then◌else◌, IfSome, IsSomeAnd}
+use Rattle.std.specs.Prelude.{Option, Some, None, slice_get, slice_index_or, is_some, ◌==◌, if◌then◌else◌, IfSome}
 use Rattle.std.specs.Prelude.{sum_by, count_by, fold}
 use Rattle.std.specs.Option.{option_map, option_to_list}
 use Rattle.std.proofs.lemmas.Bool.{cases_eq, cases_lt, eq-eqb}

@@ -1,7 +1,7 @@
 -- The instructions of a packet have room in it, and a nop stands alone.
 use Rattle.std.proofs.Common.{ℕ, ◌≡◌, ◌≤◌, ◌+◌, Bool, true, false, cond, List, [], ◌∷◌, ◌++◌, length, map, inl, refl, sym, ap, ◌∙◌, subst}
 use Rattle.std.proofs.Common.{arith}
-use Rattle.std.specs.Prelude.{Option, Some, None, slice_get, unwrap_or, nat_eq, ◌==◌, if◌then◌else◌, sum_by, IsSomeAnd}
+use Rattle.std.specs.Prelude.{Option, Some, None, nat_eq, ◌==◌, if◌then◌else◌, sum_by}
 use Rattle.std.specs.Bool.{OnTrue}
 use Rattle.std.specs.List.{list_any}
 use Rattle.std.proofs.lemmas.Bool.{and_from, eq-eqb}

@@ -1,5 +1,5 @@
 -- Which tables the compiler works for: HEXAGON, and those that differ from it in these ways alone.
-use Rattle.std.specs.Prelude.{ℕ, ◌≡◌, ◌<◌, ◌≤◌, ◌^◌, Bool, true, false, ◌&&◌, not, is_none, nat_le, nat_lt, slice_get, IsSomeAnd}
+use Rattle.std.specs.Prelude.{ℕ, ◌≡◌, ◌<◌, ◌≤◌, ◌^◌, Bool, true, ◌&&◌, not, is_none, nat_le, nat_lt, slice_get, IsSomeAnd}
 use Rattle.std.specs.Bool.{OnTrue}
 use Rattle.un_isa.specs.declared.op.Op.{Op}
 use Rattle.un_isa.specs.declared.reg.TheConstants.{STACK, REGISTERS}

@@ -1,6 +1,6 @@
 -- Laws of what cycles lose.
 use Rattle.std.proofs.Common.{ℕ, zero, suc, ◌≡◌, ◌<◌, ◌≤◌, ◌+◌, ◌-◌, ◌*◌, ◌∙◌, ◌⊎◌, Bool, true, false, not, ◌&&◌, ◌||◌, List, [], ◌∷◌}
-use Rattle.std.proofs.Common.{if◌then◌else◌, length, min, nat_eq, nat_le, nat_lt, slice_index, refl, sym, ap, subst, arith, inl, inr}
+use Rattle.std.proofs.Common.{if◌then◌else◌, length, nat_eq, nat_le, nat_lt, slice_index, refl, ap, subst, arith, inl, inr}
 use Rattle.std.proofs.lemmas.Bool.{cases_lt}
 use Rattle.std.proofs.lemmas.Bool.Decides.{nat_tests}
 use Rattle.un_domains.specs.OrderLaws.{same_test}
@@ -22,7 +22,7 @@ use Rattle.un_length.specs.Rooms.{takes, lies_in, crowd, have_room}
 use Rattle.un_length.specs.RoomLaws.{own_share, crowd_less, room_less, keeps_room}
 use Rattle.un_length.specs.Counting.{ends_at, starts, ended, adds}
 use Rattle.un_length.specs.CountingLaws.{starts_more, crowd_sum, crowd_ended, crowd_quiet, crowd_lone}
-use Rattle.un_length.specs.Mixed.{may_issue, issuable, passes, is_of, holds_of, holds_at, lost_at, mix_fits}
+use Rattle.un_length.specs.Mixed.{may_issue, issuable, is_of, holds_of, holds_at, lost_at, mix_fits}
 use Rattle.un_length.specs.Mixed.{mixed_end_fits, mixes_fit, are_countless, mixed_room, AreMixed, fit_mixed}
 
 -- Sums from a number on

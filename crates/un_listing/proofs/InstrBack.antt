@@ -1,6 +1,6 @@
 -- An instruction of code is what the words of its text spell.
 use Rattle.std.proofs.Common.{◌≡◌, ◌≢◌, ℕ, ℤ, pos, negsuc, suc, zero, ◌+◌, ◌<◌, ◌≤◌, Bool, true, false, nat_lt, List, [], ◌∷◌, map, length}
-use Rattle.std.proofs.Common.{take, codes, Option, Some, None, if◌then◌else◌, IfSome, option_map, refl, ap, ◌∙◌, arith, unsigned_abs}
+use Rattle.std.proofs.Common.{take, codes, Option, Some, None, if◌then◌else◌, option_map, refl, ap, ◌∙◌, arith, unsigned_abs}
 use Rattle.std.proofs.Common.{lt-ltb, ne_eqb}
 use Rattle.std.proofs.lemmas.Bool.Decides.{nat_tests}
 use Rattle.un_base.specs.Names.{is_name}

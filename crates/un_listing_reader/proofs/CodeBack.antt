@@ -31,7 +31,6 @@ use Rattle.std.proofs.Math.Nat.{ℕ_set}
 use Rattle.un_base.specs.Lines.{pieces_of, joined_lines}
 use Rattle.un_isa.specs.declared.op.Op.TheVariants.{Jumpr}
 use Rattle.un_isa.specs.declared.reg.TheConstants.{FRAME}
-use Rattle.un_packet.specs.declared.code.Packet.{Packet}
 use Rattle.un_packet.specs.declared.code.CodeBlock.{CodeBlock}
 use Rattle.un_packet.specs.declared.code.Code.{Code}
 use Rattle.un_packet.specs.CodeRules.{KeepsRules, labels_of}

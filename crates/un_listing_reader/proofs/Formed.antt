@@ -1,7 +1,7 @@
 -- Instructions of code have the form of instructions, and what a line is read as.
-use Rattle.std.proofs.Common.{◌≡◌, ◌↔◌, ℕ, ℤ, zero, suc, pos, negsuc, ◌+◌, ◌<◌, ◌≤◌, Bool, true, false, IsTrue, true≢false, nat_lt, List}
+use Rattle.std.proofs.Common.{◌≡◌, ◌↔◌, ℕ, ℤ, zero, suc, ◌+◌, ◌<◌, ◌≤◌, Bool, true, false, IsTrue, true≢false, nat_lt, List}
 use Rattle.std.proofs.Common.{[]}
-use Rattle.std.proofs.Common.{◌∷◌, ◌++◌, map, length, codes, Option, Some, None, All, if◌then◌else◌, refl, sym, ap, ◌∙◌, subst, arith}
+use Rattle.std.proofs.Common.{◌∷◌, ◌++◌, map, length, codes, Some, None, All, if◌then◌else◌, refl, sym, ap, ◌∙◌, subst, arith}
 use Rattle.std.specs.List.{range_with_len}
 use Rattle.std.proofs.lemmas.Bool.Decides.{nat_tests}
 use Rattle.std.proofs.lemmas.Int.{ints}
@@ -9,13 +9,12 @@ use Rattle.std.proofs.lemmas.List.Elements.{All-nil, All-cons}
 use Rattle.un_isa.specs.declared.op.Op.{Op}
 use Rattle.un_isa.specs.declared.op.Op.TheVariants.{Call, Enter, Leave}
 use Rattle.un_isa.specs.declared.reg.Reg.{Reg}
-use Rattle.un_isa.specs.declared.reg.Space.{Space}
 use Rattle.un_isa.specs.declared.reg.Space.TheVariants.{R, P, M}
 use Rattle.un_isa.specs.declared.reg.TheConstants.{FRAME, FIRST_SLOT}
 use Rattle.un_isa.specs.declared.instr.Instr.{Instr}
 use Rattle.un_isa.specs.Registers.{space_of}
 use Rattle.un_packet.specs.declared.code.Packet.{Packet}
-use Rattle.un_packet.specs.CodeRules.{IsGoodInstr, IsGoodPacket, ReadsItsSpaces, HasItsNumber, number}
+use Rattle.un_packet.specs.CodeRules.{IsGoodInstr, ReadsItsSpaces, HasItsNumber, number}
 use Rattle.un_listing.specs.Listing.{packet_line}
 use Rattle.un_listing_reader.specs.declared.packet.PacketRead.{PacketRead}
 use Rattle.un_listing_reader.specs.declared.packet.PacketRead.TheVariants.{Good, Broken, Other}

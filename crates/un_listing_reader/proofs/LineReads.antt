@@ -7,7 +7,7 @@ use Rattle.un_listing_reader.specs.declared.packet.PacketRead.{PacketRead}
 use Rattle.un_listing_reader.specs.declared.packet.PacketRead.TheVariants.{Good, Broken, Other}
 use Rattle.un_listing_reader.specs.PacketReads.{IsPacketReadAs, line_of}
 use Rattle.un_listing_reader.specs.PacketWords.{IsPacketLine}
-use Rattle.un_listing_reader.specs.Reading.{Spells, SpellsNone, IsReadAs}
+use Rattle.un_listing_reader.specs.Reading.{SpellsNone, IsReadAs}
 
 -- the text is no label's line
 abbrev pub HasNoLabel : List ℕ → Type 0

@@ -1,5 +1,5 @@
 -- Lines that are a packet's by their form, whatever rules of code they break.
-use Rattle.std.specs.Prelude.{ℕ, ℤ, ◌≡◌, List, ◌++◌, Option, Some, All, codes}
+use Rattle.std.specs.Prelude.{ℕ, ℤ, ◌≡◌, List, ◌++◌, Some, All, codes}
 use Rattle.un_isa.specs.declared.op.Op.{Op}
 use Rattle.un_isa.specs.declared.op.Op.TheVariants.{Call, Enter, Leave}
 use Rattle.un_isa.specs.declared.reg.Reg.{Reg}

@@ -1,14 +1,14 @@
 -- What the blocks of a linear function keep: each name that is live has a temporary of its kind, which is defined before.
-use Rattle.std.proofs.Common.{◌≡◌, ◌≢◌, ℕ, zero, suc, ◌+◌, ◌-◌, ◌*◌, ◌<◌, ◌≤◌, ◌++◌, Bool, true, false, nat_eq, List, [], ◌∷◌, Option, Some}
-use Rattle.std.proofs.Common.{None, map, length, take, drop, replicate, get_or, slice_get, All, AllPairs, Contains, refl, sym, ap, ◌∙◌}
+use Rattle.std.proofs.Common.{◌≡◌, ◌≢◌, ℕ, zero, suc, ◌+◌, ◌-◌, ◌<◌, ◌≤◌, ◌++◌, Bool, true, false, nat_eq, List, [], ◌∷◌, Option, Some}
+use Rattle.std.proofs.Common.{None, map, length, take, drop, replicate, get_or, slice_get, All, Contains, refl, sym, ap, ◌∙◌}
 use Rattle.std.proofs.Common.{arith, subst, append_assoc, append-nil, add-one, length-set}
-use Rattle.std.specs.List.{flat_map, range_with_len, list_any, AllZip}
+use Rattle.std.specs.List.{range_with_len, list_any, AllZip}
 use Rattle.std.specs.Option.{option_map, option_to_list}
 use Rattle.std.proofs.lemmas.Bool.{eqb-true}
 use Rattle.std.proofs.lemmas.Grind.{flat_map-append}
 use Rattle.std.proofs.lemmas.List.{length-append, length-map, length-replicate, get_or-map, get_or-set_same, get_or-set_other}
 use Rattle.std.proofs.lemmas.List.Elements.{All-nil, All-cons, All-head, All-tail, Contains-get_or}
-use Rattle.std.proofs.lemmas.List.FromFn.{length-range_with_len, length-map-range_with_len}
+use Rattle.std.proofs.lemmas.List.FromFn.{length-map-range_with_len}
 use Rattle.std.proofs.lemmas.Option.{slice_get_within, slice_get-map, slice_get-get_or, slice_get_past}
 use Rattle.un_base.specs.declared.ids.NameId.{NameId}
 use Rattle.un_base.specs.declared.ids.TempId.{TempId}
@@ -25,28 +25,27 @@ use Rattle.un_ir.specs.declared.function.Term.TheVariants.{Fall, Jump, Branch, R
 use Rattle.un_ir.specs.declared.function.Block.{Block}
 use Rattle.un_ir.specs.declared.function.Function.{Function}
 use Rattle.un_ir.specs.declared.function.TheConstants.{PARAMS}
-use Rattle.un_ir.specs.declared.extended.ExtKind.TheVariants.{In, Out, Body, End}
-use Rattle.un_ir.specs.declared.extended.Operand.{Operand}
+use Rattle.un_ir.specs.declared.extended.ExtKind.TheVariants.{End}
 use Rattle.un_ir.specs.declared.extended.ExtOp.{ExtOp}
 use Rattle.un_ir.specs.declared.extended.ExtBlock.{ExtBlock}
-use Rattle.un_ir.specs.Extended.{temp, at_register, carried, name_kind, in_kinds, all_kinds, all_results, results_of, defined_kinds}
-use Rattle.un_ir.specs.Extended.{kind_of_temp, Want, anywhere, word_in, wants_of, wants_of_op, wants_of_out, IsGoodOperand, IsGoodExtOp}
-use Rattle.un_ir.specs.Extended.{IsGoodExtBlock, Parts, IsMadeOf, AllAre, is_inner, is_end, is_copy}
+use Rattle.un_ir.specs.Extended.{temp, at_register, carried, name_kind, in_kinds, all_kinds, results_of, defined_kinds}
+use Rattle.un_ir.specs.Extended.{anywhere, word_in, wants_of_op, wants_of_out, IsGoodOperand, IsGoodExtOp}
+use Rattle.un_ir.specs.Extended.{IsGoodExtBlock, Parts, IsMadeOf, AllAre, is_end, is_copy}
 use Rattle.un_ir.specs.Linear.{ending_of, Ending}
-use Rattle.un_ir.specs.Live.{IsLive, used, kept, read_by, read_at, read_by_term, assigned_by, next_by, targets_of}
+use Rattle.un_ir.specs.Live.{IsLive, used, kept, read_by, read_by_term, assigned_by, next_by, targets_of}
 use Rattle.un_ir.specs.LinearOf.{AreLive, live_at, is_among, live_after, name_of, kind_of_pair, reads, name_operand, argument_operands}
 use Rattle.un_ir.specs.LinearOf.{source_operands, kept_operands, out_operands_of, first_temps, assigned, past, body_op, body_ops}
-use Rattle.un_ir.specs.LinearOf.{current_after, in_op, end_ops, out_op, past_all, past_block, linear_ops, linear_block, linear_blocks}
+use Rattle.un_ir.specs.LinearOf.{current_after, in_op, end_ops, out_op, past_all, past_block, linear_block, linear_blocks}
 use Rattle.un_ir.specs.Names.{kind_of}
-use Rattle.un_ir.specs.WellFormed.{IsOfKind, IsGoodOp, IsGoodBlock, AssignsItsKind, TestsItsKind, operand_kinds, result_kind}
-use Rattle.un_ir.proofs.GoodOps.{zip_append, got_left, got_right, temps, Numbers, numbers_none, numbers_row, numbers_append, numbers_has}
-use Rattle.un_ir.proofs.GoodOps.{numbers_length, AreGoodOps, good_append, all_good, results_append}
+use Rattle.un_ir.specs.WellFormed.{IsOfKind, IsGoodOp, AssignsItsKind, TestsItsKind, operand_kinds, result_kind}
+use Rattle.un_ir.proofs.GoodOps.{zip_append, got_left, got_right, temps, Numbers, numbers_append, numbers_has}
+use Rattle.un_ir.proofs.GoodOps.{numbers_length, AreGoodOps, good_append, all_good}
 use Rattle.un_ir.proofs.NameBounds.{at_all, live_name_small}
 use Rattle.un_ir.proofs.SourceFacts.{good_block, source_op, Reads, reads_kinds, assigns_kind, kind_is}
 use Rattle.un_lssa.specs.Making.{past_blocks}
 use Rattle.un_lssa.proofs.Operands.{past_all_grows, saved_count}
 use Rattle.un_lssa.proofs.EnterSim.{first_temp, first_length, body_ending, rest_ending, any_found, among_contains, filter_all}
-use Rattle.un_lssa.proofs.LinearNumbers.{kinds_of, numbers_body, numbers_dst, body_kinds, rest_kinds, rest_results, carried_itself}
+use Rattle.un_lssa.proofs.LinearNumbers.{kinds_of, numbers_body, numbers_dst, rest_kinds, carried_itself}
 use Rattle.un_lssa.proofs.LinearNumbers.{blocks_plain, numbers_blocks, in_count, ops_kinds, inner_body}
 
 -- what stands at a place

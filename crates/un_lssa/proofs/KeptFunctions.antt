@@ -1,9 +1,8 @@
 -- What the linear function of every function keeps.
 use Rattle.std.proofs.Common.{◌≡◌, ◌≢◌, ℕ, zero, suc, ◌+◌, ◌*◌, ◌<◌, ◌≤◌, ◌++◌, ◌^◌, Bool, List, [], ◌∷◌, Option, Some, None, map, filter}
-use Rattle.std.proofs.Common.{length, replicate, get_or, slice_get, All, AllPairs, Contains, refl, sym, ap, ◌∙◌, arith, subst, mul-suc}
+use Rattle.std.proofs.Common.{length, replicate, get_or, slice_get, All, AllPairs, Contains, refl, sym, ap, ◌∙◌, arith, subst}
 use Rattle.std.specs.List.{flat_map, range_with_len, list_any, sum_by}
 use Rattle.std.specs.Option.{option_to_list}
-use Rattle.std.proofs.Math.Bridge.{le_prop}
 use Rattle.std.proofs.Math.Logic.{∥∥₁_elim}
 use Rattle.std.proofs.Props.{props}
 use Rattle.std.proofs.lemmas.List.{length-append, length-map}
@@ -26,12 +25,11 @@ use Rattle.un_ir.specs.declared.function.Term.TheVariants.{Fall, Jump, Branch, R
 use Rattle.un_ir.specs.declared.function.Block.{Block}
 use Rattle.un_ir.specs.declared.function.Function.{Function}
 use Rattle.un_ir.specs.declared.function.TheConstants.{BLOCKS, OPS, NAMES, PARAMS}
-use Rattle.un_ir.specs.declared.extended.Operand.{Operand}
 use Rattle.un_ir.specs.declared.extended.ExtOp.{ExtOp}
 use Rattle.un_ir.specs.declared.extended.ExtBlock.{ExtBlock}
 use Rattle.un_ir.specs.declared.extended.Lssa.{Lssa}
 use Rattle.un_ir.specs.declared.extended.TheConstants.{BLOCK_SIZE}
-use Rattle.un_ir.specs.Extended.{temp, all_results, name_kind, size_of, LeadsOn, HandsNamesOver, AreGoodBlocks, IsLinear}
+use Rattle.un_ir.specs.Extended.{temp, all_results, name_kind, size_of, LeadsOn, HandsNamesOver, IsLinear}
 use Rattle.un_ir.specs.Linear.{ending_of, Ending}
 use Rattle.un_ir.specs.Live.{IsLive, targets_of}
 use Rattle.un_ir.specs.LinearOf.{AreLive, live_at, is_among, live_after, name_of, kind_of_pair, reads, name_operand, argument_operands}
@@ -40,15 +38,14 @@ use Rattle.un_ir.specs.LinearOf.{current_after, in_op, end_ops, out_op, past_blo
 use Rattle.un_ir.specs.Names.{kind_of}
 use Rattle.un_ir.specs.WellFormed.{IsOfKind, IsWellFormed, IsGoodOp, operand_kinds}
 use Rattle.un_ir.proofs.FunctionFacts.{entry_there, leads_inside}
-use Rattle.un_ir.proofs.GoodOps.{temps, numbers_whole}
+use Rattle.un_ir.proofs.GoodOps.{numbers_whole}
 use Rattle.un_ir.proofs.NameBounds.{at_all, live_name_small}
 use Rattle.un_ir.proofs.SourceFacts.{good_block, Reads, reads_kinds, kind_is}
 use Rattle.un_lssa.specs.Making.{past_blocks}
-use Rattle.un_lssa.proofs.BlockLaws.{few_names}
 use Rattle.un_lssa.proofs.EnterSim.{body_ending, rest_ending, any_true, contains_among, filter_has}
 use Rattle.un_lssa.proofs.FunctionRuns.{params_few, entry_param}
 use Rattle.un_lssa.proofs.FunctionSizes.{filter_few, saved_few, all_ops_few, block_ops_few, blocks_few, names_few, live_few}
-use Rattle.un_lssa.proofs.KeptBlocks.{kinds, all_kept}
+use Rattle.un_lssa.proofs.KeptBlocks.{all_kept}
 use Rattle.un_lssa.proofs.LinearNumbers.{blocks_plain, numbers_blocks}
 
 -- ---- sizes

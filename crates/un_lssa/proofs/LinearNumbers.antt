@@ -1,6 +1,6 @@
 -- A linear function has no copies, and its temporaries are numbered in the order in which they are defined.
-use Rattle.std.proofs.Common.{◌≡◌, ℕ, zero, suc, ◌+◌, ◌-◌, ◌<◌, ◌≤◌, ◌++◌, true, List, [], ◌∷◌, Option, Some, None, unwrap_or, map, length}
-use Rattle.std.proofs.Common.{replicate, get_or, slice_get, All, refl, sym, ap, ◌∙◌, arith, append_assoc}
+use Rattle.std.proofs.Common.{◌≡◌, ℕ, zero, suc, ◌+◌, ◌-◌, ◌≤◌, ◌++◌, true, List, [], ◌∷◌, Option, Some, None, unwrap_or, map, length}
+use Rattle.std.proofs.Common.{replicate, get_or, slice_get, All, refl, sym, ap, ◌∙◌, arith}
 use Rattle.std.specs.List.{flat_map, range_with_len}
 use Rattle.std.specs.Option.{option_to_list}
 use Rattle.std.proofs.lemmas.Grind.{flat_map-append}
@@ -22,16 +22,16 @@ use Rattle.un_ir.specs.declared.function.Term.{Term}
 use Rattle.un_ir.specs.declared.function.Term.TheVariants.{Fall, Jump, Branch, Ret}
 use Rattle.un_ir.specs.declared.function.Block.{Block}
 use Rattle.un_ir.specs.declared.extended.ExtKind.{ExtKind}
-use Rattle.un_ir.specs.declared.extended.ExtKind.TheVariants.{In, Out, Body, End, Copy}
+use Rattle.un_ir.specs.declared.extended.ExtKind.TheVariants.{Body, Copy}
 use Rattle.un_ir.specs.declared.extended.Operand.{Operand}
 use Rattle.un_ir.specs.declared.extended.ExtOp.{ExtOp}
 use Rattle.un_ir.specs.declared.extended.ExtBlock.{ExtBlock}
-use Rattle.un_ir.specs.Extended.{temp, carried, carried_by, all_carried, results_of, all_results, defined_kinds, all_kinds, in_kinds}
+use Rattle.un_ir.specs.Extended.{temp, carried, carried_by, all_carried, results_of, all_results, defined_kinds, in_kinds}
 use Rattle.un_ir.specs.Extended.{is_linear_kind, is_inner, AllAre, IsPlainOp}
 use Rattle.un_ir.specs.LinearOf.{live_at, live_after, reads, name_operand, argument_operands, source_operands, kept_operands}
 use Rattle.un_ir.specs.LinearOf.{out_operands_of, first_temps, assigned, past, body_ops, current_after, in_op, end_ops, out_op, past_all}
 use Rattle.un_ir.specs.LinearOf.{past_block, linear_ops, linear_block, linear_blocks}
-use Rattle.un_ir.proofs.GoodOps.{temps, Numbers, numbers_none, numbers_row, numbers_append, numbers_whole, results_append}
+use Rattle.un_ir.proofs.GoodOps.{temps, Numbers, numbers_none, numbers_row, numbers_append, results_append}
 use Rattle.un_lssa.specs.Making.{past_blocks}
 
 -- ---- one alternative an operand, and no copies

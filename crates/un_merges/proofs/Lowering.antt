@@ -1,6 +1,6 @@
 -- Values of which some are lowered by one: how they are made, and what their sum and their cost are.
-use Rattle.std.proofs.Common.{◌≡◌, ◌≢◌, ℕ, zero, suc, ◌+◌, ◌-◌, ◌*◌, ◌≤◌, ◌<◌, Bool}
-use Rattle.std.proofs.Common.{true, false, cond, eqb, ltb, List, [], ◌∷◌, Option, Some, None}
+use Rattle.std.proofs.Common.{◌≡◌, ◌≢◌, ℕ, zero, suc, ◌+◌, ◌-◌, ◌≤◌, ◌<◌, Bool}
+use Rattle.std.proofs.Common.{true, false, cond, eqb, ltb, List, [], ◌∷◌, Some, None}
 use Rattle.std.proofs.Common.{length, get_or, set, take, All, sum, ◌⊎◌, inl, inr, refl, sym, ap, ◌∙◌, subst, arith}
 use Rattle.std.specs.Prelude.{◌&&◌, ◌||◌}
 use Rattle.std.specs.List.{list_any}

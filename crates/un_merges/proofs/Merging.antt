@@ -10,7 +10,7 @@ use Rattle.un_model.specs.declared.model.Solution.{Solution}
 use Rattle.un_model.specs.Cost.{value_of, cost_of}
 use Rattle.un_model.specs.Pairs.{places_from}
 use Rattle.un_merges.specs.Merges.{is_number, is_cycle, lowered, merged}
-use Rattle.un_merges.specs.Lowered.{IsLowered, AreLowered}
+use Rattle.un_merges.specs.Lowered.{AreLowered}
 use Rattle.un_merges.proofs.Lowering.{lower_step, places_same, lowered_below, inside, sum_falls, cost_no_more, ends_below}
 
 -- the values whose cycles and end are lowered are those of the merge

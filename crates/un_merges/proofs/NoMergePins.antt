@@ -1,18 +1,14 @@
 -- Solutions with and without a merge, of a model of one block that issues nothing: the block's end, and the frame's flag.
-use Rattle.std.proofs.Common.{ℕ, zero, suc, ◌≡◌, ◌<◌, ◌≤◌, List, [], ◌∷◌, Some, None, refl, ap, ◌∙◌, arith}
-use Rattle.std.specs.Prelude.{slice_get, All, AllPairs}
+use Rattle.std.proofs.Common.{ℕ, zero, suc, ◌≡◌, ◌≤◌, [], ◌∷◌, Some, None, ap, ◌∙◌, arith}
+use Rattle.std.specs.Prelude.{slice_get}
 use Rattle.std.proofs.lemmas.List.Elements.{All-nil}
 use Rattle.un_domains.specs.declared.domain.Domain.TheVariants.{Range}
-use Rattle.un_domains.specs.declared.domain.Domain.{Domain}
-use Rattle.un_ir.specs.declared.extended.Ext.{Ext}
 use Rattle.un_ir.specs.declared.extended.ExtBlock.{ExtBlock}
 use Rattle.un_isa.specs.Hexagon.{HEXAGON}
-use Rattle.un_isa.specs.PacketCounts.{places_of}
-use Rattle.un_model.specs.Congruences.{HandsOver, HandsOn, KeepsCongruences, IsCongruent, live_in_temps}
+use Rattle.un_model.specs.Congruences.{HandsOver, HandsOn, KeepsCongruences, live_in_temps}
 use Rattle.un_model.specs.Solutions.{IsSolution, KeepsFrame, HasRoom}
 use Rattle.un_model.specs.declared.model.BlockVars.{BlockVars}
 use Rattle.un_model.specs.declared.model.Model.{Model}
-use Rattle.un_model.specs.declared.model.Solution.{Solution}
 use Rattle.un_model.specs.declared.schedule.Schedule.{Schedule}
 use Rattle.un_merges.specs.Merges.{merged, HasNoMergeIn}
 use Rattle.un_merges.proofs.Pins.{with_values}

@@ -1,6 +1,5 @@
 -- What a merge is of a small block: three operations, of which the second has no cycle, and the end.
 use Rattle.std.proofs.Common.{◌≡◌, ℕ, List, [], ◌∷◌, Some, None, refl}
-use Rattle.un_base.specs.declared.ids.VarId.{VarId}
 use Rattle.un_model.specs.declared.model.OpVars.{OpVars}
 use Rattle.un_model.specs.declared.model.BlockVars.{BlockVars}
 use Rattle.un_model.specs.declared.model.Solution.{Solution}

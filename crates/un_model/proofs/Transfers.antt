@@ -1,6 +1,6 @@
 -- What the instructions of terminators and of copies do, and which places of a packet they need.
 use Rattle.std.proofs.Common.{ℕ, ◌≡◌, ◌≤◌, Bool, true, false, refl, sym, ap, ◌∙◌, arith}
-use Rattle.std.specs.Prelude.{Option, Some, None, IsSomeAnd, slice_get, unwrap_or, ◌==◌, if◌then◌else◌, nat_eq}
+use Rattle.std.specs.Prelude.{Option, Some, None, IsSomeAnd, slice_get, unwrap_or, ◌==◌, if◌then◌else◌}
 use Rattle.std.proofs.lemmas.Bool.{OnTrue_at}
 use Rattle.std.proofs.lemmas.Bool.Decides.{nat_tests}
 use Rattle.un_isa.specs.declared.op.Op.{Op}

@@ -5,13 +5,11 @@ use Rattle.std.proofs.Common.{ap, ◌∙◌, subst, arith, Contains, eq-eqb}
 use Rattle.std.specs.Prelude.{Option, Some, None, IfSome, not, ◌&&◌, ◌||◌, ◌==◌, nat_eq, nat_lt, slice_get, slice_index}
 use Rattle.std.specs.Prelude.{sum_by, if◌then◌else◌}
 use Rattle.std.proofs.lemmas.Bool.Decides.{nat_tests}
-use Rattle.std.proofs.lemmas.List.Sums.{sum_by-cons}
 use Rattle.un_isa.specs.Fit.{IsFit}
 use Rattle.un_isa.specs.declared.op.Op.{Op}
 use Rattle.un_isa.specs.declared.op.Op.TheVariants.{Call, Load, Store}
 use Rattle.un_isa.specs.declared.table.Table.{Table}
-use Rattle.un_isa.specs.Does.{is_transfer, is_control}
-use Rattle.un_isa.proofs.DoesLaws.{transfer_control}
+use Rattle.un_isa.specs.Does.{is_transfer}
 use Rattle.un_ir.specs.declared.function.Term.{Term}
 use Rattle.un_ir.specs.declared.function.Term.TheVariants.{Fall, Jump, Branch, Ret}
 use Rattle.un_ir.specs.Linear.{is_in, is_out}
@@ -24,7 +22,6 @@ use Rattle.un_domains.specs.Sets.{has}
 use Rattle.un_model.specs.declared.model.Arc.{Arc}
 use Rattle.un_model.specs.declared.model.Options.{Options}
 use Rattle.un_model.specs.declared.model.TempVars.{TempVars}
-use Rattle.un_model.proofs.Transfers.{control_need}
 use Rattle.un_base.specs.declared.ids.VarId.{VarId}
 use Rattle.un_model.specs.declared.model.OpVars.{OpVars}
 use Rattle.un_model.specs.declared.schedule.Issue.{Issue}
@@ -34,9 +31,9 @@ use Rattle.un_model.specs.ArcLaws.{arc_told}
 use Rattle.un_model.specs.Arcs.{reads_from, own_instr, NeedsGap, block_arcs, blocks_arcs}
 use Rattle.un_model.specs.Arcs.NeedsGap.{ByData, ByMemory}
 use Rattle.un_model.proofs.Gaps.{gap_whole, no_compare, latency_some}
-use Rattle.un_model.specs.Instructions.{instruction_of, needs_by, transfer_of}
+use Rattle.un_model.specs.Instructions.{instruction_of, transfer_of}
 use Rattle.un_model.specs.Schedules.{schedule_of, issues_of, value_by, cycle_by}
-use Rattle.un_model.specs.Solutions.{share_of, IsSchedule, IsPlaced, IsPlacedAs, IsLast, latency_gap, after_write, memory_distance}
+use Rattle.un_model.specs.Solutions.{IsSchedule, IsPlaced, IsPlacedAs, latency_gap, after_write, memory_distance}
 use Rattle.un_model.specs.Variables.{model_of, arcs_of, blocks_temps, block_count, ops_count, var_at}
 use Rattle.un_model.proofs.ArcsKept.{KeepsArc, arcs_kept}
 use Rattle.un_lists.proofs.Lists.{Member, each_member, any_of, member_map_of, index_get, place_of as position_of}
@@ -53,7 +50,7 @@ use Rattle.un_post.proofs.CallEnds.{transfer_last, end_after}
 use Rattle.un_post.proofs.Facts.{Given}
 use Rattle.un_post.proofs.Placing.{place_of}
 use Rattle.un_post.proofs.Packets.{no_room, share, sum_part, whole_taken}
-use Rattle.un_model.proofs.Regions.{regions, of_region, out_is}
+use Rattle.un_model.proofs.Regions.{regions, out_is}
 use Rattle.un_post.proofs.Spared.{Ordered, spared, call_instr}
 use Rattle.un_post.proofs.Tests.{and_iff}
 

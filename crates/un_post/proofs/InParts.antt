@@ -1,11 +1,10 @@
 -- A solution is of the part of each block, and its cost is the sum of what it costs in each.
-use Rattle.std.proofs.Common.{ℕ, zero, suc, ◌≡◌, ◌+◌, ◌<◌, ◌≤◌, Bool, true, false, List, [], ◌∷◌, length, map, filter, refl, sym, ap}
-use Rattle.std.proofs.Common.{◌∙◌, subst, arith, All, AllPairs, inl, inr}
-use Rattle.std.specs.Prelude.{Option, Some, None, slice_get, sum_by, ◌==◌, ◌||◌, ◌&&◌, if◌then◌else◌, is_none, nat_le}
+use Rattle.std.proofs.Common.{ℕ, zero, suc, ◌≡◌, ◌+◌, ◌<◌, ◌≤◌, Bool, true, false, List, [], ◌∷◌, length, filter, refl, sym, ap}
+use Rattle.std.proofs.Common.{◌∙◌, subst, arith, All, AllPairs, inr}
+use Rattle.std.specs.Prelude.{Option, Some, None, slice_get, sum_by, ◌==◌, ◌||◌, if◌then◌else◌}
 use Rattle.std.specs.List.{range_with_len, list_any}
 use Rattle.std.proofs.lemmas.List.Sums.{sum_by-cons}
 use Rattle.un_isa.specs.Fit.{IsFit}
-use Rattle.un_isa.specs.declared.packet_counts.Resource.{Resource}
 use Rattle.un_isa.specs.declared.table.Table.{Table}
 use Rattle.un_ir.specs.Extended.{IsExtended}
 use Rattle.un_ir.specs.declared.extended.Ext.{Ext}
@@ -18,22 +17,22 @@ use Rattle.un_model.specs.declared.schedule.Issue.{Issue}
 use Rattle.un_model.specs.declared.schedule.LiveRange.{LiveRange}
 use Rattle.un_model.specs.declared.schedule.Read.{Read}
 use Rattle.un_model.specs.declared.schedule.Schedule.{Schedule}
-use Rattle.un_model.specs.Cost.{block_cost, blocks_cost, cost_of}
+use Rattle.un_model.specs.Cost.{blocks_cost}
 use Rattle.un_model.specs.Options.{AreOptions}
 use Rattle.un_model.specs.Schedules.{schedule_of, reads_of}
-use Rattle.un_model.specs.Solutions.{IsSchedule, IsSolution, KeepsFrame, KeepsPackets, KeepsRegisters, IsIdleAtZero, IsZeroRange, IsLive}
+use Rattle.un_model.specs.Solutions.{IsSchedule, IsSolution, KeepsFrame, KeepsPackets, IsIdleAtZero, IsZeroRange, IsLive}
 use Rattle.un_model.specs.Solutions.{ReadsInSpace, IsGivenInSpace, IsPlaced, LeavesGap, ReadsHome, Precedes, ShareNoCycle, SparesRange}
-use Rattle.un_model.specs.Solutions.{IsSpared, HasFrame, Fits, taken, share_of, issues_at, uses_frame, is_frame_access, starts_in_slot}
+use Rattle.un_model.specs.Solutions.{IsSpared, HasFrame, share_of, issues_at, uses_frame, is_frame_access, starts_in_slot}
 use Rattle.un_model.specs.Solutions.{memory_distance, frame_distance, latency_gap}
 use Rattle.un_model.specs.Variables.{IsModel, model_of}
-use Rattle.un_lists.proofs.Lists.{Each, Pairwise, Member, each_of, each_member, each_all, each_map, each_filter, pairwise_all, pairwise_filter}
+use Rattle.un_lists.proofs.Lists.{each_of, each_member, each_all, each_map, each_filter, pairwise_all, pairwise_filter}
 use Rattle.un_lists.proofs.Lists.{pairwise_map, pairwise_more, any_of, member_of_filter, member_map_of, get_below}
 use Rattle.un_model.proofs.Placed.{Region}
 use Rattle.un_model.proofs.PlacedSchedules.{the_ranges}
 use Rattle.un_model.proofs.RegionEnds.{all_regions}
 use Rattle.un_model.proofs.Regions.{regions, region_is, region_of}
 use Rattle.un_root.proofs.Eaches.{all_each}
-use Rattle.un_post.specs.Parts.{absent, only_in, block_schedule, KeepsPartFrame, IsPartOf, part_cost, cost_or}
+use Rattle.un_post.specs.Parts.{absent, only_in, block_schedule, KeepsPartFrame, IsPartOf, cost_or}
 use Rattle.un_post.specs.PartPosts.{IsInParts}
 use Rattle.un_post.proofs.Facts.{Given}
 use Rattle.un_post.proofs.Frames.{any_true}

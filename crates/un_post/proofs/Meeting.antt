@@ -1,10 +1,10 @@
 -- Lists of constraints that an assignment meets, and entries of lists at a place.
-use Rattle.std.proofs.Common.{ℕ, zero, suc, ◌≡◌, ◌↔◌, ◌+◌, Bool, true, false, List, [], ◌∷◌, map, refl, ap, ◌∙◌, subst, arith, All}
+use Rattle.std.proofs.Common.{ℕ, zero, suc, ◌≡◌, ◌↔◌, Bool, true, false, List, [], ◌∷◌, map, refl, ap, arith}
 use Rattle.std.specs.Prelude.{Some, slice_get, slice_index, ◌||◌, not}
 use Rattle.un_base.specs.declared.ids.VarId.{VarId}
 use Rattle.un_model.specs.Pairs.{places_from, joined}
-use Rattle.un_lists.proofs.Lists.{Each, each_all, each_join, each_append, each_of, each_member}
-use Rattle.un_model.proofs.PlacedSchedules.{member_places, places_member}
+use Rattle.un_lists.proofs.Lists.{Each, each_all, each_join, each_append, each_member}
+use Rattle.un_model.proofs.PlacedSchedules.{member_places}
 use Rattle.un_root.proofs.Eaches.{all_each}
 use Rattle.un_prop.specs.Choices.{passes_at}
 use Rattle.un_alt.specs.Registers.{value_at}

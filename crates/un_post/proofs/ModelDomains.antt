@@ -1,5 +1,5 @@
 -- Each domain of a model is one that a variable may have: rising values, one at least, and all below 2^32.
-use Rattle.std.proofs.Common.{ℕ, zero, suc, ◌<◌, ◌^◌, List, [], ◌∷◌, map, All}
+use Rattle.std.proofs.Common.{zero, suc, ◌<◌, ◌^◌, List, [], ◌∷◌, map, All}
 use Rattle.un_isa.specs.Fit.{IsFit}
 use Rattle.un_ir.specs.declared.extended.Ext.{Ext}
 use Rattle.un_ir.specs.Extended.{IsExtended}

@@ -1,7 +1,7 @@
 -- The part of a block keeps each arc of the block: the later operation issues at least the arc's gap after the earlier one. And where the
 -- arcs are met, its Loads, Stores and Calls keep their order.
-use Rattle.std.proofs.Common.{ℕ, zero, suc, ◌≡◌, ◌+◌, ◌<◌, ◌≤◌, Bool, true, false, List, [], ◌∷◌, length, map, filter, refl, sym, ap, ◌∙◌}
-use Rattle.std.proofs.Common.{subst, arith, AllPairs, eq-eqb}
+use Rattle.std.proofs.Common.{ℕ, zero, suc, ◌≡◌, ◌+◌, ◌<◌, ◌≤◌, Bool, true, false, List, [], ◌∷◌, refl, sym, ap, ◌∙◌}
+use Rattle.std.proofs.Common.{subst, arith, eq-eqb}
 use Rattle.std.specs.Prelude.{Option, Some, None, IfSome, slice_get, ◌==◌, ◌||◌, is_some}
 use Rattle.std.specs.List.{AllZip}
 use Rattle.std.specs.Option.{option_map, option_map_or}
@@ -21,17 +21,16 @@ use Rattle.un_ir.specs.Linear.{first_of}
 use Rattle.un_model.specs.declared.model.Arc.{Arc}
 use Rattle.un_model.specs.declared.model.Options.{Options}
 use Rattle.un_model.specs.declared.model.TempVars.{TempVars}
-use Rattle.un_model.specs.declared.schedule.Issue.{Issue}
 use Rattle.un_model.specs.declared.schedule.Read.{Read}
 use Rattle.un_model.specs.declared.schedule.Schedule.{Schedule}
 use Rattle.un_model.specs.ArcLaws.{arc_told}
 use Rattle.un_model.specs.Arcs.{own_instr, value_read, defines, reads_from, data_gap, memory_gap, NeedsGap}
 use Rattle.un_model.specs.Arcs.NeedsGap.{ByData, ByMemory}
 use Rattle.un_model.specs.Instructions.{instruction_of, latency_by}
-use Rattle.un_model.specs.Schedules.{schedule_of, value_by, read_of, issues_of}
+use Rattle.un_model.specs.Schedules.{schedule_of, value_by, read_of}
 use Rattle.un_model.specs.Solutions.{KeepsChoices, KeepsLatencies, KeepsMemory, IsLive, LeavesGap, Precedes, memory_distance, latency_gap}
-use Rattle.un_model.specs.Variables.{model_of, var_at, ops_count, arcs_of, blocks_temps}
-use Rattle.un_lists.proofs.Lists.{Each, Pairwise, Member, each_of, each_member, each_map, any_of, member_at, place_of as position_of}
+use Rattle.un_model.specs.Variables.{model_of, var_at, ops_count, arcs_of}
+use Rattle.un_lists.proofs.Lists.{Pairwise, Member, each_of, each_member, each_map, any_of, member_at, place_of as position_of}
 use Rattle.un_lists.proofs.Lists.{pairwise_map, pairwise_of_map, pairwise_all, slice_get-map}
 use Rattle.un_model.proofs.Gaps.{gap_copy, gap_within}
 use Rattle.un_model.proofs.Operations.{placed_get}
@@ -51,7 +50,7 @@ use Rattle.un_post.proofs.Meeting.{Met}
 use Rattle.un_post.proofs.Memory.{member_contains, places, temps, region_arcs, Kept, one, in_block}
 use Rattle.un_post.proofs.NoSharing.{all_pairwise}
 use Rattle.un_post.proofs.PartItems.{here, own_in, own_of, own_issues, own_ranges, reads_here, read_here}
-use Rattle.un_post.proofs.Placing.{place_of, place_here}
+use Rattle.un_post.proofs.Placing.{place_here}
 
 -- ---- operations that every solution issues
 

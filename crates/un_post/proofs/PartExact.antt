@@ -1,10 +1,10 @@
 -- What is posted for one block is met by exactly the assignments of its part that cost less there than the limit.
 use Rattle.std.proofs.Common.{ℕ, zero, suc, ◌≡◌, ◌↔◌, ◌+◌, ◌<◌, Bool, true, false, List, [], ◌∷◌, ◌++◌, length, map, refl, sym, ap, ◌∙◌, subst}
-use Rattle.std.proofs.Common.{arith, All, Option, eq-eqb}
+use Rattle.std.proofs.Common.{arith, Option, eq-eqb}
 use Rattle.std.specs.Prelude.{Some, None, IfSome, slice_get, ◌==◌, nat_lt, if◌then◌else◌}
 use Rattle.un_isa.specs.Fit.{IsFit}
 use Rattle.un_domains.specs.Domains.{values_of}
-use Rattle.un_domains.specs.Sets.{Sets, IsIn}
+use Rattle.un_domains.specs.Sets.{Sets}
 use Rattle.un_ir.specs.declared.extended.Ext.{Ext}
 use Rattle.un_ir.specs.declared.extended.ExtBlock.{ExtBlock}
 use Rattle.un_ir.specs.Extended.{IsExtended}
@@ -19,7 +19,7 @@ use Rattle.un_model.specs.Pairs.{joined}
 use Rattle.un_model.specs.Schedules.{schedule_of}
 use Rattle.un_model.specs.Solutions.{KeepsDomains, KeepsLatencies, IsPlaced, latency_gap}
 use Rattle.un_model.specs.Variables.{IsModel, model_of, block_vars, block_count, blocks_vars, arcs_of}
-use Rattle.un_lists.proofs.Lists.{Each, Member, each_of, each_member, get_below}
+use Rattle.un_lists.proofs.Lists.{Member, each_of, each_member, get_below}
 use Rattle.un_model.proofs.Placed.{Placed, Region, region_placed, issue_at}
 use Rattle.un_model.proofs.RegionEnds.{all_regions}
 use Rattle.un_model.proofs.Regions.{regions, region_is, region_of}
@@ -31,8 +31,8 @@ use Rattle.un_sites.specs.Places.{Place, Definer, block_places, places_of, defin
 use Rattle.un_sites.specs.Postings.{of_place, edges_of, part_frame, part_limit, weighted}
 use Rattle.un_sites.specs.Rooms.{apart_in, arcs_or, packets_in, twos_in}
 use Rattle.std.proofs.lemmas.List.Elements.{All-map}
-use Rattle.un_post.specs.Parts.{IsPartOf, part_cost, cost_or, block_schedule}
-use Rattle.un_post.specs.PartPostings.{part_in, part_postings, part_single, part_rooms, part_spared, where_block}
+use Rattle.un_post.specs.Parts.{part_cost, cost_or, block_schedule}
+use Rattle.un_post.specs.PartPostings.{part_in, part_postings, part_spared, where_block}
 use Rattle.un_post.specs.PartPosts.{IsPartBelow, IsPartExact}
 use Rattle.un_post.proofs.Blocks.{blocks, one_region, region_places, region_vars, places_in, regions_met}
 use Rattle.un_post.proofs.Congruences.{edge_iff}

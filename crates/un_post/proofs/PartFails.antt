@@ -1,16 +1,15 @@
 -- Where the relaxation of a block has no member under the limit, rounds over the propagators that are posted for its part fail.
-use Rattle.std.proofs.Common.{ℕ, zero, suc, ◌≡◌, ◌+◌, ◌-◌, ◌*◌, ◌<◌, ◌++◌, Bool, true, List, [], ◌∷◌, length, map, refl, sym, ap, ◌∙◌, subst}
-use Rattle.std.proofs.Common.{arith, All, eq-eqb}
-use Rattle.std.specs.Prelude.{Option, Some, None, IfSome, slice_get, slice_index, ◌==◌, if◌then◌else◌}
+use Rattle.std.proofs.Common.{ℕ, zero, suc, ◌≡◌, ◌+◌, ◌-◌, ◌<◌, ◌++◌, Bool, true, List, [], ◌∷◌, length, map, refl, sym, ap, ◌∙◌, subst}
+use Rattle.std.proofs.Common.{arith, eq-eqb}
+use Rattle.std.specs.Prelude.{Option, Some, None, IfSome, slice_get, slice_index, if◌then◌else◌}
 use Rattle.std.proofs.lemmas.List.{length-map}
-use Rattle.un_base.specs.declared.ids.VarId.{VarId}
 use Rattle.un_isa.specs.Fit.{IsFit}
 use Rattle.un_ir.specs.declared.extended.Ext.{Ext}
 use Rattle.un_ir.specs.declared.extended.ExtBlock.{ExtBlock}
 use Rattle.un_ir.specs.Extended.{IsExtended}
 use Rattle.un_domains.specs.Domains.{values_of}
 use Rattle.un_domains.specs.Order.{Below}
-use Rattle.un_domains.specs.OrderLaws.{has_below, Below-trans}
+use Rattle.un_domains.specs.OrderLaws.{has_below}
 use Rattle.un_domains.specs.Sets.{Sets, IsIn, NoneEmpty}
 use Rattle.un_model.specs.declared.model.Arc.{Arc}
 use Rattle.un_model.specs.declared.model.BlockVars.{BlockVars}
@@ -18,37 +17,33 @@ use Rattle.un_model.specs.declared.model.Model.{Model}
 use Rattle.un_model.specs.declared.model.Options.{Options}
 use Rattle.un_model.specs.Arcs.{first_number}
 use Rattle.un_model.specs.Options.{AreOptions}
-use Rattle.un_model.specs.Pairs.{joined, over_blocks}
-use Rattle.un_model.specs.Variables.{model_of, block_vars, blocks_vars, block_count, arcs_of, ops_count, ops_vars, var_at}
-use Rattle.un_lists.proofs.Lists.{Each, Member, each_of, each_member, each_all, each_append, each_map, each_of_map, get_below, member_at}
+use Rattle.un_model.specs.Pairs.{joined}
+use Rattle.un_model.specs.Variables.{model_of, blocks_vars, block_count, arcs_of, ops_count, ops_vars, var_at}
+use Rattle.un_lists.proofs.Lists.{Each, Member, each_of, each_member, each_append, each_map, each_of_map, get_below, member_at}
 use Rattle.un_model.proofs.Placed.{Placed, Region, region_placed}
 use Rattle.un_model.proofs.Regions.{regions, region_is, region_of, over_regions}
-use Rattle.un_prop.specs.Fixes.{Known, order_free}
-use Rattle.un_prop.specs.Lawful.{Lawful}
-use Rattle.un_prop.specs.Rounds.{fix_of}
 use Rattle.un_bound.specs.Choices.{AreKnown, AllKnown}
 use Rattle.un_bound.specs.Relaxations.{Times}
 use Rattle.un_bound.proofs.Knowns.{known_model}
 use Rattle.un_kinds.specs.Constraints.{Constraint}
-use Rattle.un_root.proofs.Eaches.{all_each}
 use Rattle.un_sites.specs.Befores.{arc_before, befores_in}
 use Rattle.un_sites.specs.Places.{Place, Definer, block_places, places_of, definers_of}
 use Rattle.un_sites.specs.Postings.{of_place, edges_of, part_frame, part_limit, zeros_of, issues_in}
 use Rattle.un_sites.specs.Rooms.{apart_in, arcs_or, packets_in}
-use Rattle.un_post.specs.PartPostings.{part_in, part_postings, part_single, part_rooms, part_spared, part_twos, where_block}
+use Rattle.un_post.specs.PartPostings.{part_in, part_postings, part_spared, part_twos, where_block}
 use Rattle.un_post.specs.PartPosts.{IsPartMember, IsRelaxedIn, part_times_cost}
 use Rattle.un_post.specs.Strength.{is_timing, Strong}
 use Rattle.un_post.proofs.Blocks.{blocks, region_places, region_vars, places_in}
 use Rattle.un_post.proofs.CallOrder.{arcs_here}
 use Rattle.un_post.proofs.Exact.{of_domains}
 use Rattle.un_post.proofs.Facts.{Given}
-use Rattle.un_post.proofs.Failing.{block_more, each_stable}
+use Rattle.un_post.proofs.Failing.{block_more}
 use Rattle.un_post.proofs.LeastValues.{leasts, leasts_in}
 use Rattle.un_post.proofs.Meeting.{Met, each_joined}
 use Rattle.un_post.proofs.Memory.{temps}
 use Rattle.un_post.proofs.PartExact.{vars_here, own_cost, limits}
 use Rattle.un_post.proofs.Placing.{place_of}
-use Rattle.un_post.proofs.Relaxed.{relaxed, RegionKnown, RegionRelaxed, region_times, arcs_in, timing_issues, kept_met, Kept, after_issues}
+use Rattle.un_post.proofs.Relaxed.{relaxed, region_times, arcs_in, timing_issues, kept_met, Kept, after_issues}
 
 -- ---- the numbers of a block
 

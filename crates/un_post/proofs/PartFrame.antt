@@ -1,10 +1,9 @@
 -- In one block the flag, Enter and Leave agree with the use of the frame exactly where the constraint of the frame of its part is met.
 use Rattle.std.proofs.Common.{ℕ, zero, suc, ◌≡◌, ◌↔◌, ◌+◌, ◌<◌, ◌≤◌, Bool, true, false, cond, List, [], ◌∷◌, ◌++◌, length, map, filter}
-use Rattle.std.proofs.Common.{◌⊎◌, inl, inr, refl, sym, ap, ◌∙◌, subst, arith, All, eq-eqb}
+use Rattle.std.proofs.Common.{◌⊎◌, inl, inr, refl, sym, ap, ◌∙◌, subst, arith, All}
 use Rattle.std.specs.Prelude.{Option, Some, None, IfSome, slice_get, slice_index, not, ◌||◌, ◌&&◌, ◌==◌, nat_eq, nat_le, nat_lt, is_none, is_some}
 use Rattle.std.specs.Prelude.{if◌then◌else◌}
 use Rattle.std.specs.List.{list_any, list_all}
-use Rattle.std.proofs.lemmas.Bool.Decides.{nat_tests}
 use Rattle.un_base.specs.declared.ids.TempId.{TempId}
 use Rattle.un_base.specs.declared.ids.VarId.{VarId}
 use Rattle.un_isa.specs.declared.reg.TheConstants.{FIRST_SLOT}
@@ -50,9 +49,9 @@ use Rattle.un_post.proofs.Frames.{any_true, same_bool, not_iff, frame_kind, ente
 use Rattle.un_post.proofs.Frames.{given_at}
 use Rattle.un_post.proofs.Meeting.{Met}
 use Rattle.un_post.proofs.OneEnter.{enters, entered, filter_map}
-use Rattle.un_post.proofs.PartItems.{own_in, own_of, own_issues, own_range, own_ranges, issues_here, equal_of}
+use Rattle.un_post.proofs.PartItems.{own_in, own_of, own_issues, own_range, issues_here, equal_of}
 use Rattle.un_post.proofs.Placing.{place_of, definer_at}
-use Rattle.un_post.proofs.Tests.{iff_then, iff_back, both, and_iff, same_test, met_one, lt_iff}
+use Rattle.un_post.proofs.Tests.{iff_then, iff_back, both, and_iff, met_one, lt_iff}
 use Rattle.un_post.proofs.Whole.{ranges_are, spot_in, result_register, registers_each}
 
 module _ (e : Ext) (o : Options) (x : List ℕ) (given : Given e o x) (r : Region)

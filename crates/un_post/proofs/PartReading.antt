@@ -1,6 +1,6 @@
 -- All that is posted for one block reads its store's variables alone, holds where it reads none, and counts over no more cycles than the
 -- largest horizon.
-use Rattle.std.proofs.Common.{ℕ, ◌≡◌, ◌+◌, ◌<◌, Bool, true, false, List, [], ◌∷◌, ◌++◌, map, inr, refl, sym, ap, ◌∙◌, subst, arith}
+use Rattle.std.proofs.Common.{ℕ, ◌≡◌, ◌+◌, Bool, true, false, List, [], ◌∷◌, ◌++◌, map, refl, sym, ap, subst, arith}
 use Rattle.std.specs.Prelude.{Option, Some, None, slice_get, ◌==◌, if◌then◌else◌}
 use Rattle.un_ir.specs.declared.extended.Ext.{Ext}
 use Rattle.un_ir.specs.Extended.{IsExtended}
@@ -22,7 +22,7 @@ use Rattle.un_post.proofs.CallOrder.{arcs_here}
 use Rattle.un_post.proofs.Meeting.{joined_each}
 use Rattle.un_post.proofs.Placing.{place_of}
 use Rattle.un_post.proofs.Reading.{IsSound, PlaceIn, place_are, apart_are, spared_are, twos_are, part_frame_are, below_are}
-use Rattle.un_post.proofs.ReadingModel.{n, pos, most, the_places, the_definers, places_known, definers_known, operands_known, over_are}
+use Rattle.un_post.proofs.ReadingModel.{n, pos, most, the_places, the_definers, definers_known, operands_known, over_are}
 use Rattle.un_post.proofs.ReadingModel.{places_at, block_known, end_known, edges_at, arcs_at, packets_at, IsOk}
 
 module _ (e : Ext) (o : Options) (extended : IsExtended e) where

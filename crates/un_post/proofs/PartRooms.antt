@@ -1,36 +1,31 @@
 -- What is posted of the registers, the calls and the packets of one block is met exactly where the clauses of its part hold that speak
 -- of them.
-use Rattle.std.proofs.Common.{ℕ, zero, suc, ◌≡◌, ◌↔◌, ◌+◌, ◌≤◌, Bool, true, false, List, [], ◌∷◌, ◌++◌, map, filter, inl, inr, refl, sym, ap}
+use Rattle.std.proofs.Common.{ℕ, ◌≡◌, ◌↔◌, ◌+◌, ◌≤◌, Bool, true, false, List, [], ◌∷◌, filter, refl, sym, ap}
 use Rattle.std.proofs.Common.{◌∙◌, subst, arith, All, AllPairs, eq-eqb}
-use Rattle.std.specs.Prelude.{Option, Some, None, IfSome, slice_get, ◌==◌, ◌&&◌, ◌||◌, not, nat_eq, sum_by, if◌then◌else◌}
+use Rattle.std.specs.Prelude.{Option, Some, None, slice_get, ◌==◌, ◌&&◌, ◌||◌, not, nat_eq, sum_by, if◌then◌else◌}
 use Rattle.std.proofs.lemmas.Bool.Decides.{nat_tests}
-use Rattle.un_isa.specs.Fit.{IsFit}
-use Rattle.un_isa.specs.declared.op.Op.TheVariants.{Call}
 use Rattle.un_isa.specs.declared.packet_counts.Resource.{Resource}
 use Rattle.un_isa.specs.declared.packet_counts.Resource.TheVariants.{Control}
 use Rattle.un_isa.specs.PacketCounts.{places_of}
-use Rattle.un_isa.specs.Tables.{in_mask}
 use Rattle.un_domains.specs.Sets.{has}
 use Rattle.un_ir.specs.declared.extended.Ext.{Ext}
 use Rattle.un_ir.specs.Kinds.{is_call_kind, ends_block}
 use Rattle.un_ir.specs.Linear.{is_in}
-use Rattle.un_model.specs.declared.model.Arc.{Arc}
 use Rattle.un_model.specs.declared.model.Options.{Options}
 use Rattle.un_model.specs.declared.schedule.Issue.{Issue}
 use Rattle.un_model.specs.declared.schedule.LiveRange.{LiveRange}
 use Rattle.un_model.specs.declared.schedule.Schedule.{Schedule}
-use Rattle.un_model.specs.Pairs.{joined}
 use Rattle.un_model.specs.Schedules.{schedule_of, issues_of}
 use Rattle.un_model.specs.Solutions.{ShareNoCycle, SparesRange, IsSpared, IsPlaced, KeepsRegisters, KeepsPackets, Fits, taken}
 use Rattle.un_model.specs.Variables.{model_of}
 use Rattle.un_lists.proofs.Lists.{Each, Pairwise, Member, each_of, each_member, each_all, pairwise_all, pairwise_map, pairwise_of_map}
-use Rattle.un_lists.proofs.Lists.{pairwise_more, member_filter, member_of_filter}
+use Rattle.un_lists.proofs.Lists.{pairwise_more}
 use Rattle.un_model.proofs.Placed.{Placed, Region, region_placed, vars_of, issue_at, Spot}
-use Rattle.un_model.proofs.PlacedSchedules.{all, spots, spot_range, the_ranges, issue_here}
+use Rattle.un_model.proofs.PlacedSchedules.{spots, spot_range, the_ranges, issue_here}
 use Rattle.un_model.proofs.RegionEnds.{all_regions, filter_one}
-use Rattle.un_model.proofs.Regions.{of_region, region_is}
+use Rattle.un_model.proofs.Regions.{region_is}
 use Rattle.un_sites.specs.Places.{definers_of}
-use Rattle.un_sites.specs.Rooms.{is_before, is_behind, reached, apart_in, spared_in, packets_in}
+use Rattle.un_sites.specs.Rooms.{reached, apart_in, spared_in, packets_in}
 use Rattle.un_root.proofs.Eaches.{all_each}
 use Rattle.un_post.specs.Parts.{absent, only_in, block_schedule}
 use Rattle.un_post.proofs.BlockTemps.{region_spots, spots_by_blocks, spot_block}
@@ -43,10 +38,9 @@ use Rattle.un_post.proofs.NoSharing.{Share, all_pairwise, of_block as apart_bloc
 use Rattle.un_post.proofs.Packets.{share, sum_map, no_room, elsewhere, of_block as packets_block}
 use Rattle.un_post.proofs.PartItems.{here, own_in, own_issues, own_range, own_ranges, ranges_here, equal_of, unequal_of, each_kept}
 use Rattle.un_post.proofs.PartItems.{all_pass, none_pass}
-use Rattle.un_post.proofs.Placing.{place_of}
 use Rattle.un_post.proofs.Spared.{Ordered, Spares, is_spared, block_met, met_block}
-use Rattle.un_post.proofs.Tests.{iff_then, both}
-use Rattle.un_post.proofs.Whole.{ranges_are, issues_each}
+use Rattle.un_post.proofs.Tests.{iff_then}
+use Rattle.un_post.proofs.Whole.{ranges_are}
 
 -- ---- each two of what passes
 

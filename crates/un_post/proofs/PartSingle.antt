@@ -1,19 +1,16 @@
 -- What is posted for the operations of one block is met exactly where the clauses of its part hold that speak of single operations.
-use Rattle.std.proofs.Common.{ℕ, ◌≡◌, ◌↔◌, true, List, ◌++◌, map, inr, refl, sym, subst}
-use Rattle.std.specs.Prelude.{Option, Some, slice_get}
-use Rattle.un_base.specs.declared.ids.TempId.{TempId}
+use Rattle.std.proofs.Common.{ℕ, ◌≡◌, ◌↔◌, List, ◌++◌, map, inr, refl, subst}
+use Rattle.std.specs.Prelude.{Some, slice_get}
 use Rattle.un_ir.specs.declared.extended.Ext.{Ext}
 use Rattle.un_model.specs.declared.model.Options.{Options}
-use Rattle.un_model.specs.declared.schedule.LiveRange.{LiveRange}
-use Rattle.un_model.specs.declared.schedule.Read.{Read}
 use Rattle.un_model.specs.declared.schedule.Schedule.{Schedule}
 use Rattle.un_model.specs.Pairs.{joined}
 use Rattle.un_model.specs.Schedules.{schedule_of}
 use Rattle.un_model.specs.Solutions.{KeepsZeros, KeepsChoices, KeepsSpaces, KeepsLatencies, KeepsHomes, IsIdleAtZero, IsZeroRange}
 use Rattle.un_model.specs.Solutions.{IsLive, ReadsInSpace, IsGivenInSpace, IsPlaced, LeavesGap, ReadsHome, latency_gap}
 use Rattle.un_model.specs.Variables.{model_of}
-use Rattle.un_lists.proofs.Lists.{Each, each_of, each_member}
-use Rattle.un_model.proofs.Placed.{Region, region_placed, issue_at, spot}
+use Rattle.un_lists.proofs.Lists.{each_of, each_member}
+use Rattle.un_model.proofs.Placed.{Region, region_placed}
 use Rattle.un_model.proofs.PlacedSchedules.{spot_range}
 use Rattle.un_model.proofs.RegionEnds.{all_regions}
 use Rattle.un_kinds.specs.Constraints.{Constraint}
@@ -29,7 +26,6 @@ use Rattle.un_post.proofs.Meeting.{Met, each_joined, joined_each}
 use Rattle.un_post.proofs.OfPlaces.{KeepsSingly}
 use Rattle.un_post.proofs.PartItems.{own_in, issues_here, ranges_here, results_here, reads_here, read_here, own_ranges, posted_here}
 use Rattle.un_post.proofs.PartItems.{of_operands, operands_here}
-use Rattle.un_post.proofs.Placing.{place_of}
 use Rattle.un_post.proofs.Spaces.{agree as spaces_agree, results_by}
 use Rattle.un_post.proofs.Tests.{iff_then, iff_back, both}
 use Rattle.un_post.proofs.Whole.{met_append}

@@ -1,12 +1,11 @@
 -- Each assignment of the part of a block meets what is posted of two operands of its operations: what an operation reads is there by the
 -- clauses of the block alone.
-use Rattle.std.proofs.Common.{ℕ, ◌≡◌, ◌+◌, ◌≤◌, Bool, true, List, [], ◌∷◌, map, max, inl, inr, refl, sym, ap, ◌∙◌, subst, arith, eq-eqb}
-use Rattle.std.specs.Prelude.{Option, Some, fold, slice_get, ◌==◌, if◌then◌else◌}
+use Rattle.std.proofs.Common.{ℕ, ◌≡◌, ◌≤◌, Bool, true, List, [], ◌∷◌, map, max, inl, inr, refl, ap, ◌∙◌, subst, arith, eq-eqb}
+use Rattle.std.specs.Prelude.{Some, fold, slice_get, ◌==◌, if◌then◌else◌}
 use Rattle.un_base.specs.declared.ids.TempId.{TempId}
 use Rattle.un_ir.specs.declared.extended.Ext.{Ext}
 use Rattle.un_ir.specs.declared.extended.Operand.{Operand}
 use Rattle.un_model.specs.declared.model.Options.{Options}
-use Rattle.un_model.specs.declared.schedule.LiveRange.{LiveRange}
 use Rattle.un_model.specs.declared.schedule.Read.{Read}
 use Rattle.un_model.specs.declared.schedule.Schedule.{Schedule}
 use Rattle.un_model.specs.Pairs.{joined}
@@ -14,8 +13,8 @@ use Rattle.un_model.specs.Schedules.{cycle_for, last_read, read_of, schedule_of}
 use Rattle.un_model.specs.Solutions.{IsLive, KeepsChoices, KeepsLatencies, KeepsRegisters, KeepsSpaces, LeavesGap, ReadsInSpace, latency_gap}
 use Rattle.un_model.specs.Variables.{model_of}
 use Rattle.un_lists.proofs.Lists.{Member, each_of, pairwise_two}
-use Rattle.un_model.proofs.Placed.{Placed, Region, region_placed, vars_of, issue_at, Spot}
-use Rattle.un_model.proofs.PlacedSchedules.{all, spots, spot_range, the_reads, has_read}
+use Rattle.un_model.proofs.Placed.{Placed, Region, region_placed, vars_of, issue_at}
+use Rattle.un_model.proofs.PlacedSchedules.{spot_range, the_reads, has_read}
 use Rattle.un_model.proofs.RegionEnds.{all_regions}
 use Rattle.un_model.proofs.Regions.{of_region}
 use Rattle.un_sites.specs.Places.{definers_of}

@@ -1,7 +1,7 @@
 -- What the limit leaves an end, as the code has it.
-use Rattle.std.proofs.Common.{ℕ, suc, ◌≡◌, ◌≢◌, ◌<◌, ◌≤◌, ◌+◌, ◌-◌, ◌*◌, ◌/◌, ◌∙◌, Bool, true, false, List, [], ◌∷◌, length, get_or, max}
+use Rattle.std.proofs.Common.{ℕ, ◌≡◌, ◌≢◌, ◌<◌, ◌≤◌, ◌+◌, ◌-◌, ◌*◌, ◌/◌, ◌∙◌, Bool, true, false, List, [], ◌∷◌, length, max}
 use Rattle.std.proofs.Common.{filter, nat_lt, nat_le}
-use Rattle.std.proofs.Common.{None, Some, option_and_then, refl, sym, ap, subst, arith, inl, inr, ◌&&◌, ◌⊎◌}
+use Rattle.std.proofs.Common.{None, option_and_then, refl, sym, ap, subst, arith, inl, inr, ◌&&◌, ◌⊎◌}
 use Rattle.std.proofs.lemmas.Bool.Decides.{nat_tests}
 use Rattle.std.proofs.lemmas.List.{get_or-set_same, get_or-set_other}
 use Rattle.std.proofs.Math.Nat.{le-div_iff_mul-le}
@@ -10,7 +10,7 @@ use Rattle.un_domains.specs.Sets.{Sets, set_at, has, least, kept, cut_by}
 use Rattle.un_domains.specs.SetLaws.{least-le, has-filter, same_or_not}
 use Rattle.un_domains.specs.OrderLaws.{le_least, same_test, and_true}
 use Rattle.un_prop.specs.ChainLaws.{least_in}
-use Rattle.un_prop.specs.Failing.{first_cut, fail_cut}
+use Rattle.un_prop.specs.Failing.{fail_cut}
 use Rattle.un_prop.specs.Rounds.{round}
 use Rattle.un_prec.specs.declared.below.Weighted.{Weighted}
 use Rattle.un_prec.specs.Below.{cost_of, least_cost, end_cut, BelowVars}

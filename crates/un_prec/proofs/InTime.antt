@@ -1,6 +1,6 @@
 -- Definers that are in time, as the code has them.
 use Rattle.std.proofs.Common.{ℕ, zero, suc, ◌≡◌, ◌<◌, ◌≤◌, ◌+◌, ◌-◌, ◌∙◌, Bool, true, false, not, ◌&&◌, ◌||◌, List, [], ◌∷◌, length}
-use Rattle.std.proofs.Common.{get_or, nat_le, nat_lt}
+use Rattle.std.proofs.Common.{get_or, nat_le}
 use Rattle.std.proofs.Common.{None, Some, All, refl, sym, ap, subst, arith}
 use Rattle.std.specs.declared.option.Option.{Option}
 use Rattle.std.specs.List.{AllByRecursion, list_any, slice_get}

@@ -1,12 +1,11 @@
 -- What a limit on the cost leaves as it is, a greater limit leaves as it is.
 use Rattle.std.proofs.Common.{ℕ, ◌≡◌, ◌<◌, ◌≤◌, ◌+◌, ◌∙◌, Bool, true, List, [], ◌∷◌, length, nat_lt, slice_set, None, Some, option_and_then, Contains}
-use Rattle.std.proofs.Common.{refl, sym, ap, subst, arith}
+use Rattle.std.proofs.Common.{refl, sym, ap, arith}
 use Rattle.std.specs.declared.option.Option.{Option}
 use Rattle.std.proofs.lemmas.Bool.Decides.{nat_tests}
 use Rattle.std.specs.List.{AllByRecursion}
 use Rattle.un_base.specs.declared.ids.VarId.{VarId}
 use Rattle.un_domains.specs.Sets.{Sets, NoneEmpty, cut_by}
-use Rattle.un_prop.specs.Among.{among}
 use Rattle.un_prop.specs.AmongLaws.{has_among}
 use Rattle.un_prop.specs.ChainLaws.{stable_then}
 use Rattle.un_prop.specs.EachLaws.{members}

@@ -1,5 +1,5 @@
 -- The laws of Before are those of its link.
-use Rattle.std.proofs.Common.{ℕ, ◌≡◌, Bool, true, List, length, Some}
+use Rattle.std.proofs.Common.{ℕ, ◌≡◌, true, List, length, Some}
 use Rattle.un_base.specs.declared.ids.VarId.{VarId}
 use Rattle.un_domains.specs.Sets.{Sets, IsIn, NoneEmpty, Kept}
 use Rattle.un_prop.specs.Rounds.{HasVars}

@@ -1,7 +1,7 @@
 -- The laws of Below.
-use Rattle.std.proofs.Common.{ℕ, zero, suc, ◌≡◌, ◌≤◌, ◌<◌, ◌+◌, ◌-◌, ◌*◌, ◌∙◌, Bool, true, List, [], ◌∷◌, length, get_or, map, nat_lt}
-use Rattle.std.proofs.Common.{Some, refl, sym}
-use Rattle.std.proofs.Common.{ap, subst, arith, inl, inr}
+use Rattle.std.proofs.Common.{ℕ, zero, suc, ◌≡◌, ◌≤◌, ◌<◌, ◌+◌, ◌-◌, ◌*◌, ◌∙◌, true, List, [], ◌∷◌, length, get_or, map, nat_lt}
+use Rattle.std.proofs.Common.{Some, refl}
+use Rattle.std.proofs.Common.{ap, subst, arith}
 use Rattle.std.proofs.lemmas.Bool.Decides.{nat_tests}
 use Rattle.std.proofs.lemmas.List.{get_or-map, length-map}
 use Rattle.std.proofs.Math.Nat.{mul-le-mul_left}

@@ -1,5 +1,5 @@
 -- Inside: an operation issues from cycle 1 to before the end of its block.
-use Rattle.std.specs.Prelude.{ℕ, ◌≡◌, ◌+◌, ◌≤◌, Bool, true, ◌&&◌, List, nat_le, slice_index, option_and_then}
+use Rattle.std.specs.Prelude.{ℕ, ◌≡◌, ◌+◌, ◌≤◌, Bool, true, ◌&&◌, List, option_and_then}
 use Rattle.std.specs.declared.option.Option.{Option}
 use Rattle.un_base.specs.declared.ids.VarId.{VarId}
 use Rattle.un_domains.specs.Sets.{Sets, set_at, least}
@@ -8,7 +8,7 @@ use Rattle.un_prop.specs.declared.act.Act.{Act}
 use Rattle.un_prop.specs.declared.act.Act.TheVariants.{Always}
 use Rattle.un_prop.specs.declared.act.At.TheVariants.{Const, Var}
 use Rattle.un_prec.specs.declared.link.Link.{Link}
-use Rattle.un_prec.specs.Links.{link_holds, link_steps, LinkVars, at_cut, close_test}
+use Rattle.un_prec.specs.Links.{link_holds, link_steps, LinkVars}
 
 -- cycle 1 or later
 abbrev pub start_link : VarId → Act → Link

@@ -1,12 +1,12 @@
 -- The laws of Inside are those of its two links.
-use Rattle.std.proofs.Common.{ℕ, ◌≡◌, ◌≤◌, ◌<◌, ◌+◌, ◌∙◌, Bool, true, ◌&&◌, List, length, Some, option_and_then, refl, ap, arith}
+use Rattle.std.proofs.Common.{ℕ, ◌≡◌, ◌∙◌, Bool, true, ◌&&◌, List, length, Some, refl, ap, arith}
 use Rattle.un_base.specs.declared.ids.VarId.{VarId}
-use Rattle.un_domains.specs.Sets.{Sets, set_at, least, IsIn, NoneEmpty, Kept}
+use Rattle.un_domains.specs.Sets.{Sets, IsIn, NoneEmpty, Kept}
 use Rattle.un_prop.specs.Rounds.{HasVars}
 use Rattle.un_prop.specs.Parts.{SameAt}
 use Rattle.un_prop.specs.Lawful.{Lawful}
 use Rattle.un_prop.specs.Steps.{lawful_then}
-use Rattle.un_prop.specs.Looks.{InWords, sure}
+use Rattle.un_prop.specs.Looks.{InWords}
 use Rattle.un_prop.specs.declared.act.Act.{Act}
 use Rattle.un_prec.specs.LinkLaws.{link_looks}
 use Rattle.un_prop.specs.LookLaws.{firsts}

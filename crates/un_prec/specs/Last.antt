@@ -1,14 +1,11 @@
 -- Last: a control transfer issues in the last cycle of its block.
-use Rattle.std.specs.Prelude.{ℕ, ◌≡◌, ◌+◌, ◌≤◌, Bool, true, ◌&&◌, List, nat_eq, nat_le, slice_index, option_and_then}
+use Rattle.std.specs.Prelude.{ℕ, ◌≡◌, ◌+◌, Bool, List, nat_eq, slice_index, option_and_then}
 use Rattle.std.specs.declared.option.Option.{Option}
 use Rattle.un_base.specs.declared.ids.VarId.{VarId}
 use Rattle.un_domains.specs.Sets.{Sets, set_at, least}
-use Rattle.un_prop.specs.Looks.{sure}
-use Rattle.un_prop.specs.declared.act.Act.{Act}
 use Rattle.un_prop.specs.declared.act.Act.TheVariants.{Always}
-use Rattle.un_prop.specs.declared.act.At.TheVariants.{Const, Var}
-use Rattle.un_prec.specs.declared.link.Link.{Link}
-use Rattle.un_prec.specs.Links.{link_holds, link_steps, LinkVars, at_cut, close_test}
+use Rattle.un_prop.specs.declared.act.At.TheVariants.{Var}
+use Rattle.un_prec.specs.Links.{link_steps, LinkVars, at_cut, close_test}
 use Rattle.un_prec.specs.Inside.{end_link}
 
 -- the end is the cycle and 1

@@ -1,6 +1,6 @@
 -- The laws of Last are those of its link, and of the way back.
-use Rattle.std.proofs.Common.{ℕ, ◌≡◌, ◌≤◌, ◌<◌, ◌+◌, ◌∙◌, Bool, true, not, ◌||◌, List, length, get_or, nat_eq, nat_le, Some}
-use Rattle.std.proofs.Common.{option_and_then, refl, sym, ap, arith}
+use Rattle.std.proofs.Common.{ℕ, ◌≡◌, ◌≤◌, ◌+◌, ◌∙◌, true, List, length, get_or, nat_eq, Some}
+use Rattle.std.proofs.Common.{refl, ap, arith}
 use Rattle.std.proofs.lemmas.Bool.Decides.{nat_tests}
 use Rattle.un_base.specs.declared.ids.VarId.{VarId}
 use Rattle.un_domains.specs.Sets.{Sets, set_at, least, IsIn, NoneEmpty, Kept}
@@ -9,11 +9,10 @@ use Rattle.un_prop.specs.Parts.{SameAt}
 use Rattle.un_prop.specs.Lawful.{Lawful}
 use Rattle.un_prop.specs.Steps.{lawful_then}
 use Rattle.un_prop.specs.LastLaws.{passes_all}
-use Rattle.un_prop.specs.Among.{AllAmong}
 use Rattle.un_prop.specs.AmongLaws.{has_among, same_var}
 use Rattle.un_prop.specs.Looks.{InWords}
 use Rattle.un_prop.specs.declared.act.Act.TheVariants.{Always}
-use Rattle.un_prop.specs.declared.act.At.TheVariants.{Const, Var}
+use Rattle.un_prop.specs.declared.act.At.TheVariants.{Var}
 use Rattle.un_prec.specs.LinkLaws.{at_lawful, at_keeps, close_lawful, close_keeps}
 use Rattle.un_prec.specs.Links.{link_holds, link_steps, at_cut, close_test}
 use Rattle.un_prec.specs.StepLaws.{link_lawful, link_keeps, link_strong}

@@ -1,30 +1,25 @@
 -- Laws of links.
-use Rattle.std.proofs.Common.{ℕ, ◌≡◌, ◌≢◌, ◌<◌, ◌≤◌, ◌+◌, ◌-◌, ◌^◌, Bool, true, false, not, ◌&&◌, ◌||◌, List, [], ◌∷◌, length, get_or, min}
-use Rattle.std.proofs.Common.{nat_eq, nat_le, nat_lt, None, Some, MatchOption, All, refl, sym, ap, ◌∙◌, subst, arith}
-use Rattle.std.specs.declared.option.Option.{Option}
+use Rattle.std.proofs.Common.{ℕ, ◌≡◌, ◌≢◌, ◌<◌, ◌≤◌, ◌+◌, ◌-◌, ◌^◌, Bool, true, false, not, ◌&&◌, ◌||◌, List, min}
+use Rattle.std.proofs.Common.{nat_le, nat_lt, Some, refl, sym, ap, ◌∙◌, arith}
 use Rattle.std.proofs.lemmas.Bool.Decides.{nat_tests}
 use Rattle.un_base.specs.declared.ids.VarId.{VarId}
-use Rattle.un_domains.specs.Sets.{Sets, set_at, has, cut_by, least, greatest, IsIn, NoneEmpty, Kept}
-use Rattle.un_domains.specs.SetLaws.{least-le, has-fold_max}
+use Rattle.un_domains.specs.Sets.{Sets, has, cut_by, least, greatest, IsIn, NoneEmpty, Kept}
 use Rattle.un_domains.specs.CutLaws.{cut_by_kept}
 use Rattle.un_domains.specs.Order.{Below}
-use Rattle.un_domains.specs.OrderLaws.{least_below, greatest_below, has_below, le_least, same_test}
+use Rattle.un_domains.specs.OrderLaws.{same_test}
 use Rattle.un_prop.specs.Rounds.{HasVars}
 use Rattle.un_prop.specs.Parts.{SameAt}
 use Rattle.un_prop.specs.Lawful.{Agree, Lawful, LawfulTest}
 use Rattle.un_prop.specs.Steps.{lawful_cut_by, lawful_some}
-use Rattle.un_prop.specs.Among.{among, AllAmong}
+use Rattle.un_prop.specs.Among.{AllAmong}
 use Rattle.un_prop.specs.AmongLaws.{in_list, has_among, same_active, same_time}
-use Rattle.un_prop.specs.Acts.{act_vars, act_number, is_active, at_vars, at_value}
+use Rattle.un_prop.specs.Acts.{is_active, at_vars, at_value}
 use Rattle.un_prop.specs.Looks.{at_set, sure}
-use Rattle.un_prop.specs.LookLaws.{not_or, or_not, both, firsts, not_true, not_from, known_of, at_alike, sure_alike, least_at_below}
+use Rattle.un_prop.specs.LookLaws.{not_or, or_not, both, firsts, not_true, not_from, at_alike, sure_alike, least_at_below}
 use Rattle.un_prop.specs.LookLaws.{greatest_at_below, sure_below, sure_active, value_in}
-use Rattle.std.proofs.lemmas.List.Elements.{All-contains}
-use Rattle.un_prop.specs.declared.act.Act.{Act}
-use Rattle.un_prop.specs.declared.act.Act.TheVariants.{Always, Var as ActVar}
 use Rattle.un_prop.specs.declared.act.At.{At}
 use Rattle.un_prop.specs.declared.act.At.TheVariants.{Const, Var}
-use Rattle.un_prop.specs.LastLaws.{passes_all, cut_all, cut_same}
+use Rattle.un_prop.specs.LastLaws.{cut_all, cut_same}
 use Rattle.un_prec.specs.declared.link.Link.{Link}
 use Rattle.un_prec.specs.Links.{link_holds, LinkVars, both_sure, at_cut, later_test, earlier_test, apart_test, close_test}
 

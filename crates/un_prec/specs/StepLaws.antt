@@ -1,17 +1,13 @@
 -- Laws of all that a link lets a store keep.
-use Rattle.std.proofs.Common.{ℕ, zero, suc, ◌≡◌, ◌<◌, ◌≤◌, ◌+◌, ◌-◌, ◌^◌, ◌⊎◌, Bool, true, false, not, ◌&&◌, ◌||◌, List, [], ◌∷◌, length}
-use Rattle.std.proofs.Common.{get_or, map, fold, min, nat_le, nat_lt, None, Some, option_and_then, MatchOption, refl, sym, ap, ◌∙◌, subst}
+use Rattle.std.proofs.Common.{ℕ, ◌≡◌, ◌≤◌, ◌+◌, ◌-◌, ◌^◌, true, ◌&&◌, List, [], ◌∷◌, length}
+use Rattle.std.proofs.Common.{map, min, nat_le, nat_lt, Some, option_and_then, refl, ap, subst}
 use Rattle.std.proofs.Common.{arith, inl, inr}
-use Rattle.std.specs.declared.option.Option.{Option}
-use Rattle.std.specs.Bool.{⊤}
 use Rattle.std.proofs.lemmas.Bool.{cases_lt}
 use Rattle.std.proofs.lemmas.List.{get_or-map, length-map}
 use Rattle.std.proofs.lemmas.Bool.Decides.{nat_tests}
 use Rattle.un_base.specs.declared.ids.VarId.{VarId}
-use Rattle.un_domains.specs.Sets.{Sets, set_at, has, least, greatest, IsIn, NoneEmpty, Kept}
-use Rattle.un_domains.specs.SetLaws.{least-le, has-cons}
-use Rattle.un_domains.specs.Order.{Below}
-use Rattle.un_domains.specs.OrderLaws.{Below-same, le_least, has_here, has_later}
+use Rattle.un_domains.specs.Sets.{Sets, set_at, least, greatest, IsIn, NoneEmpty, Kept}
+use Rattle.un_domains.specs.OrderLaws.{le_least}
 use Rattle.un_prop.specs.Rounds.{HasVars}
 use Rattle.un_prop.specs.Lawful.{Lawful}
 use Rattle.un_prop.specs.Steps.{lawful_then}
@@ -21,16 +17,14 @@ use Rattle.un_prop.specs.FailLaws.{first_lawful, first_keeps, first_passes}
 use Rattle.un_prop.specs.LastLaws.{passes_all}
 use Rattle.un_prop.specs.Among.{AllAmong}
 use Rattle.un_prop.specs.AmongLaws.{has_among}
-use Rattle.un_prop.specs.Acts.{at_vars, at_value, act_vars, is_active}
+use Rattle.un_prop.specs.Acts.{at_vars}
 use Rattle.un_prop.specs.Looks.{at_set, sure, InWords}
-use Rattle.un_prop.specs.declared.act.Act.{Act}
-use Rattle.un_prop.specs.declared.act.Act.TheVariants.{Always, Var as ActVar}
 use Rattle.un_prop.specs.declared.act.At.{At}
 use Rattle.un_prop.specs.declared.act.At.TheVariants.{Const, Var}
 use Rattle.un_prec.specs.declared.link.Link.{Link}
 use Rattle.un_prec.specs.Links.{link_holds, LinkVars, both_sure, at_cut, later_test, earlier_test, apart_test, link_steps, LinkStrong}
 use Rattle.un_prec.specs.LinkLaws.{at_lawful, at_keeps, later_lawful, later_keeps, earlier_lawful, earlier_keeps, apart_lawful, apart_keeps}
-use Rattle.un_prec.specs.LinkLaws.{is_sure_or, sure_holds}
+use Rattle.un_prec.specs.LinkLaws.{sure_holds}
 use Rattle.un_prop.specs.LookLaws.{or_not, both, not_true, value_in}
 
 -- A link

@@ -1,15 +1,15 @@
 -- Steps of a round, and of rounds.
-use Rattle.std.proofs.Common.{ℕ, suc, ◌≡◌, ◌≢◌, ◌<◌, ◌≤◌, ◌+◌, Bool, true, false, List, [], ◌∷◌, length, get_or, drop, drop-cons, add-one}
+use Rattle.std.proofs.Common.{ℕ, suc, ◌≡◌, ◌≢◌, ◌<◌, ◌≤◌, ◌+◌, Bool, true, false, List, ◌∷◌, length, get_or, drop, drop-cons, add-one}
 use Rattle.std.proofs.Common.{None, Some, option_and_then, MatchOption, All, refl, sym, ap, ◌∙◌, subst, arith}
 use Rattle.std.proofs.lemmas.List.{drop_all}
 use Rattle.std.specs.declared.option.Option.{Option}
 use Rattle.std.specs.Bool.{MatchBool, ⊤}
 use Rattle.std.specs.List.{AllByRecursion}
 use Rattle.un_base.specs.declared.ids.VarId.{VarId}
-use Rattle.un_domains.specs.Sets.{Sets, NoneEmpty, IsIn, Kept, total, set_at, has}
+use Rattle.un_domains.specs.Sets.{Sets, NoneEmpty, IsIn, Kept, total}
 use Rattle.un_domains.specs.Cuts.{Contents}
 use Rattle.un_domains.specs.Order.{Below}
-use Rattle.un_domains.specs.OrderLaws.{Below-refl, Below-trans, total_below}
+use Rattle.un_domains.specs.OrderLaws.{Below-trans, total_below}
 use Rattle.un_prop.specs.Rounds.{round, fix_of, HasVars}
 use Rattle.un_prop.specs.KeepLaws.{round_kept}
 use Rattle.un_prop.specs.Lawful.{Lawful}

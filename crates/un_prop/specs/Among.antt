@@ -1,5 +1,5 @@
 -- Whether a variable stands in a list.
-use Rattle.std.specs.Prelude.{ℕ, ◌≡◌, Bool, true, List, nat_eq, All}
+use Rattle.std.specs.Prelude.{◌≡◌, Bool, true, List, nat_eq, All}
 use Rattle.std.specs.List.{list_any}
 use Rattle.un_base.specs.declared.ids.VarId.{VarId}
 

@@ -1,6 +1,6 @@
 -- Laws of entries at a chosen place.
-use Rattle.std.proofs.Common.{ℕ, zero, suc, ◌≡◌, ◌<◌, None, Some, Bool, true, false, ◌≤◌, List, [], ◌∷◌, length, get_or, All, refl, ap}
-use Rattle.std.proofs.Common.{arith, ◌∙◌}
+use Rattle.std.proofs.Common.{ℕ, zero, suc, ◌≡◌, ◌<◌, None, Some, Bool, true, false, ◌≤◌, List, [], ◌∷◌, length, get_or, refl, ap}
+use Rattle.std.proofs.Common.{arith}
 use Rattle.std.specs.List.{AllByRecursion, slice_get}
 use Rattle.un_prop.specs.Choices.{passes_at}
 

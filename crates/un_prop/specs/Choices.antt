@@ -1,6 +1,5 @@
 -- Entries of lists at a chosen place.
-use Rattle.std.specs.Prelude.{ℕ, zero, suc, Bool, true, false, ◌&&◌, List, [], ◌∷◌, slice_index}
-use Rattle.un_base.specs.declared.ids.VarId.{VarId}
+use Rattle.std.specs.Prelude.{ℕ, zero, suc, Bool, false, List, [], ◌∷◌}
 
 -- whether the entry at a place passes; there is none past the end
 abbrev pub passes_at : {A : Type 0} → (A → Bool) → List A → ℕ → Bool

@@ -1,6 +1,6 @@
 -- Laws of a cut for each item of a list, in order.
 use Rattle.std.proofs.Common.{ℕ, zero, suc, ◌≡◌, ◌<◌, ◌≤◌, ◌+◌, ◌∙◌, List, [], ◌∷◌, length, get_or, take, Some, option_and_then, refl}
-use Rattle.std.proofs.Common.{sym, ap, subst}
+use Rattle.std.proofs.Common.{ap, subst}
 use Rattle.std.proofs.Common.{None, add-one, arith}
 use Rattle.std.specs.declared.option.Option.{Option}
 use Rattle.std.specs.List.{AllByRecursion, Contains}

@@ -1,9 +1,8 @@
 -- Laws of cuts of the first variable.
 use Rattle.std.proofs.Common.{ℕ, ◌≡◌, ◌<◌, Bool, true, false, List, [], ◌∷◌, length, None, Some, refl, ap, arith}
-use Rattle.std.specs.declared.option.Option.{Option}
 use Rattle.std.specs.List.{Contains, slice_get}
 use Rattle.un_base.specs.declared.ids.VarId.{VarId}
-use Rattle.un_domains.specs.Sets.{Sets, set_at, has, cut_by, IsIn, NoneEmpty, Kept}
+use Rattle.un_domains.specs.Sets.{Sets, set_at, cut_by, IsIn, NoneEmpty, Kept}
 use Rattle.un_domains.specs.CutLaws.{cut_by_kept}
 use Rattle.un_domains.specs.OrderLaws.{has_here}
 use Rattle.un_prop.specs.Rounds.{HasVars}

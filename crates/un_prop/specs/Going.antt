@@ -1,5 +1,5 @@
 -- Steps of a pruning, one after another.
-use Rattle.std.specs.Prelude.{ℕ, ◌≡◌, ◌≢◌, List, length, option_and_then}
+use Rattle.std.specs.Prelude.{◌≡◌, ◌≢◌, List, length, option_and_then}
 use Rattle.std.specs.declared.option.Option.{Option}
 use Rattle.un_base.specs.declared.ids.VarId.{VarId}
 use Rattle.un_domains.specs.Sets.{Sets, NoneEmpty}

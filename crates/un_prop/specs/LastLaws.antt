@@ -1,13 +1,13 @@
 -- Laws of the check of the last variable.
 use Rattle.std.proofs.Common.{ℕ, zero, suc, ◌≡◌, ◌≢◌, ◌<◌, ◌≤◌, ◌+◌, ◌⊎◌, Bool, true, false, not, ◌&&◌, ◌||◌, cond, List, [], ◌∷◌, ◌++◌}
-use Rattle.std.proofs.Common.{length, get_or, set, take, drop, drop-cons, filter, map, nat_eq, nat_le, None, Some, option_and_then}
+use Rattle.std.proofs.Common.{length, get_or, set, take, drop, drop-cons, filter, nat_eq, nat_le, None, Some, option_and_then}
 use Rattle.std.proofs.Common.{MatchOption, All, refl, sym, ap, ◌∙◌, subst, arith, inl, inr}
 use Rattle.std.specs.declared.option.Option.{Option}
 use Rattle.std.specs.Bool.{⊤}
 use Rattle.std.specs.Option.{is_some}
 use Rattle.std.specs.List.{Contains, AllByRecursion}
 use Rattle.std.proofs.lemmas.Bool.Decides.{nat_tests}
-use Rattle.std.proofs.lemmas.List.{get_or-set_same, get_or-set_other, get_or-map, length-map, length-set, set-set, set-get_or}
+use Rattle.std.proofs.lemmas.List.{get_or-set_same, get_or-set_other, get_or-map, length-map, set-set, set-get_or}
 use Rattle.std.proofs.lemmas.List.{get_or_default}
 use Rattle.std.proofs.lemmas.List.Elements.{All-contains, recursion_from_All, All-from_recursion}
 use Rattle.un_base.specs.declared.ids.VarId.{VarId}
@@ -15,7 +15,7 @@ use Rattle.un_domains.specs.Sets.{Sets, set_at, has, kept, cut_by, least, greate
 use Rattle.un_domains.specs.SetLaws.{same_or_not, has-filter, has-cons, least-le, has-fold_max}
 use Rattle.un_domains.specs.CutLaws.{cut_by_kept}
 use Rattle.un_domains.specs.Order.{Below}
-use Rattle.un_domains.specs.OrderLaws.{Below-refl, Below-trans, has_here, and_true, same_test, filter_all, filter_agree_on, filter-filter}
+use Rattle.un_domains.specs.OrderLaws.{Below-refl, Below-trans, and_true, same_test, filter_all, filter_agree_on, filter-filter}
 use Rattle.un_domains.specs.OrderLaws.{single_below, has_below}
 use Rattle.un_prop.specs.Rounds.{HasVars}
 use Rattle.un_prop.specs.Parts.{SameAt}

@@ -1,5 +1,5 @@
 -- Laws of predicates of one part, whose cut ends in the check of the last variable.
-use Rattle.std.proofs.Common.{ℕ, zero, suc, ◌≡◌, ◌≢◌, ◌<◌, Bool, true, false, ◌&&◌, List, [], ◌∷◌, length, get_or, None, Some}
+use Rattle.std.proofs.Common.{ℕ, zero, suc, ◌≡◌, ◌≢◌, Bool, true, false, ◌&&◌, List, [], ◌∷◌, length, get_or, None, Some}
 use Rattle.std.proofs.Common.{option_and_then, MatchOption, All, refl, sym, ap, ◌∙◌, subst, arith}
 use Rattle.std.specs.declared.option.Option.{Option}
 use Rattle.std.specs.Bool.{⊤}
@@ -7,7 +7,7 @@ use Rattle.std.specs.List.{Contains}
 use Rattle.un_base.specs.declared.ids.VarId.{VarId}
 use Rattle.un_domains.specs.Sets.{Sets, set_at, IsIn, NoneEmpty, Kept}
 use Rattle.un_domains.specs.Order.{Below}
-use Rattle.un_domains.specs.OrderLaws.{single_below, Below-same, Below-trans}
+use Rattle.un_domains.specs.OrderLaws.{single_below, Below-same}
 use Rattle.un_domains.specs.Cuts.{Contents}
 use Rattle.un_prop.specs.Pruning.{IsPrune}
 use Rattle.un_prop.specs.Going.{Goes}

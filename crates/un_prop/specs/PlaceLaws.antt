@@ -1,7 +1,6 @@
 -- Laws of filters of a choice.
-use Rattle.std.proofs.Common.{ℕ, zero, suc, ◌≡◌, ◌≢◌, ◌<◌, ◌≤◌, ◌+◌, ◌⊎◌, Bool, true, false, not, ◌&&◌, ◌||◌, List, [], ◌∷◌, length, get_or}
-use Rattle.std.proofs.Common.{nat_eq, nat_le, None, Some, option_and_then, refl, sym, ap, ◌∙◌, subst, arith, inl, inr}
-use Rattle.std.specs.declared.option.Option.{Option}
+use Rattle.std.proofs.Common.{ℕ, ◌≡◌, ◌<◌, Bool, true, false, not, ◌||◌, List, get_or}
+use Rattle.std.proofs.Common.{nat_eq, nat_le, Some, refl, sym, ap, ◌∙◌, subst, arith}
 use Rattle.std.specs.List.{AllByRecursion, list_any}
 use Rattle.std.proofs.lemmas.Bool.Decides.{nat_tests}
 use Rattle.un_base.specs.declared.ids.VarId.{VarId}
@@ -10,14 +9,14 @@ use Rattle.un_domains.specs.CutLaws.{cut_by_kept}
 use Rattle.un_domains.specs.Order.{Below}
 use Rattle.un_domains.specs.OrderLaws.{has_below}
 use Rattle.un_prop.specs.Rounds.{HasVars}
-use Rattle.un_prop.specs.Lawful.{Agree, Lawful, LawfulTest}
+use Rattle.un_prop.specs.Lawful.{Lawful, LawfulTest}
 use Rattle.un_prop.specs.Steps.{lawful_cut_by, lawful_some, lawful_then}
 use Rattle.un_prop.specs.LastLaws.{passes_all, cut_all, cut_same}
 use Rattle.un_prop.specs.Among.{among, AllAmong}
 use Rattle.un_prop.specs.AmongLaws.{in_list, has_among}
 use Rattle.un_prop.specs.Acts.{act_vars, act_number, is_active}
 use Rattle.un_prop.specs.Looks.{sure}
-use Rattle.un_prop.specs.LookLaws.{not_or, or_not, not_true, not_from, known_below, set_alike, sure_alike, sure_below, sure_active}
+use Rattle.un_prop.specs.LookLaws.{not_or, or_not, set_alike, sure_alike, sure_below, sure_active}
 use Rattle.un_prop.specs.ChainLaws.{then_kept, known_in, stable_then, each_lawful, each_keeps, each_stable}
 use Rattle.un_prop.specs.Choices.{passes_at}
 use Rattle.un_prop.specs.ChoiceLaws.{passes_more, passes_agree, map_all}

@@ -1,5 +1,5 @@
 -- Laws of cuts where something is so of the store.
-use Rattle.std.proofs.Common.{ℕ, ◌≡◌, ◌<◌, ◌≤◌, ◌∙◌, Bool, true, false, not, ◌&&◌, ◌||◌, List, [], ◌∷◌, length, get_or, nat_eq, Some}
+use Rattle.std.proofs.Common.{ℕ, ◌≡◌, ◌<◌, ◌∙◌, Bool, true, false, not, ◌&&◌, ◌||◌, List, [], ◌∷◌, length, get_or, nat_eq, Some}
 use Rattle.std.proofs.Common.{refl, sym, ap, subst}
 use Rattle.std.proofs.Common.{arith, inl, inr}
 use Rattle.std.specs.List.{AllByRecursion, list_any, list_all}
@@ -8,9 +8,8 @@ use Rattle.un_base.specs.declared.ids.VarId.{VarId}
 use Rattle.un_domains.specs.Sets.{Sets, set_at, has, least, cut_by, IsIn, NoneEmpty, Kept}
 use Rattle.un_domains.specs.CutLaws.{cut_by_kept}
 use Rattle.un_domains.specs.SetLaws.{has-cons}
-use Rattle.un_domains.specs.Order.{Below}
 use Rattle.un_domains.specs.OrderLaws.{single_below}
-use Rattle.un_prop.specs.Lawful.{Agree, Lawful, LawfulTest}
+use Rattle.un_prop.specs.Lawful.{Lawful, LawfulTest}
 use Rattle.un_prop.specs.Steps.{lawful_cut_by}
 use Rattle.un_prop.specs.Rounds.{HasVars}
 use Rattle.un_prop.specs.Among.{among}

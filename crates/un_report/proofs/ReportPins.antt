@@ -1,5 +1,5 @@
 -- Parts of reports, as they are to be printed.
-use Rattle.std.proofs.Common.{ℕ, ◌≡◌, List, [], ◌∷◌, None, Some, codes, refl}
+use Rattle.std.proofs.Common.{◌≡◌, [], ◌∷◌, None, Some, codes, refl}
 use Rattle.std.specs.Fmt.{digits}
 use Rattle.un_report.specs.Reports.{head_text, numbers_text, solution_text, model_text, costs_text, answer_text, tree_part}
 use Rattle.un_report.specs.declared.report.Report.{Report}

@@ -17,7 +17,7 @@ use Rattle.un_report_reader.proofs.WholeTexts.{IsText, flat, text_is_good}
 use Rattle.un_report_reader.specs.Answers.{IsAnswer}
 use Rattle.un_report_reader.specs.FirstBad.{BeginsNoAllowed, BeginsNone, BehindKind, IsBadNumber, InFunction, InModel, InAnswer, InTree}
 use Rattle.un_report_reader.specs.FirstBad.{InNodes, InEnd, InNothing, IsFirstBad}
-use Rattle.un_report_reader.specs.Limits.{AreWithin, AreFewLines, IsAllowed, limits_of}
+use Rattle.un_report_reader.specs.Limits.{AreFewLines, IsAllowed, limits_of}
 use Rattle.un_report_reader.specs.Lines.{version_text, IsName, function_text, AreSettings, settings_text, IsAny, kind_text}
 use Rattle.un_report_reader.specs.Lines.{IsShort, tree_head, IsPlain, end_text}
 use Rattle.un_report_reader.specs.Readings.{IsReportRead}

@@ -3,7 +3,7 @@ use Rattle.std.proofs.Common.{ℕ, zero, suc, ◌≡◌, ◌+◌, ◌-◌, ◌<�
 use Rattle.std.proofs.Common.{[], ◌∷◌, ◌++◌, length, map, filter, take}
 use Rattle.std.proofs.Common.{inl, inr, refl, sym, ap, subst, arith, All}
 use Rattle.std.specs.Prelude.{Option, Some, None, IfSome, slice_get, slice_index, nat_eq, ◌||◌, if◌then◌else◌, sum_by}
-use Rattle.std.specs.List.{range_with_len, AllZip}
+use Rattle.std.specs.List.{range_with_len}
 use Rattle.std.specs.Option.{option_map, option_to_list}
 use Rattle.std.proofs.lemmas.Bool.Decides.{nat_tests}
 use Rattle.std.proofs.lemmas.List.{length-append, length-map}
@@ -40,7 +40,7 @@ use Rattle.un_model.specs.Registers.{slots_of, with_zero, is_truth}
 use Rattle.un_model.specs.Variables.{IsModel, instr_domain, cycle_domain, choice_domain, home_domain, source_domain, register_domain}
 use Rattle.un_ir.specs.Kinds.{has_choices}
 use Rattle.un_model.specs.Variables.{result_domain, carries_truth, chosen_operands, op_domains, ops_domains, blocks_domains}
-use Rattle.un_model.specs.Variables.{own_horizon, domains_of, model_of}
+use Rattle.un_model.specs.Variables.{own_horizon, domains_of}
 use Rattle.un_lists.proofs.Lists.{Each, Pairwise, Member, each_of, each_member, each_more, each_map, each_join, each_all, pairwise_filter}
 use Rattle.un_lists.proofs.Lists.{pairwise_map, pairwise_all, member_filter, member_map_of}
 use Rattle.un_lists.proofs.Lists.{member_append_left, member_append_right, place_of}

@@ -1,7 +1,7 @@
 -- A block whose own operations have room, and in which the instructions of a draft issue besides, each when it is asked to, ends no sooner
 -- than the least end that they leave together.
-use Rattle.std.proofs.Common.{ℕ, zero, suc, ◌≡◌, ◌<◌, ◌≤◌, ◌+◌, Bool, true, false, List, [], ◌∷◌, ◌++◌, length, map, max, min, filter, All}
-use Rattle.std.proofs.Common.{refl, sym, ap, ◌∙◌, subst, arith, append_assoc, length-append}
+use Rattle.std.proofs.Common.{ℕ, suc, ◌≡◌, ◌<◌, ◌≤◌, ◌+◌, Bool, true, false, List, [], ◌∷◌, ◌++◌, length, map, max, min, All}
+use Rattle.std.proofs.Common.{refl, sym, ap, ◌∙◌, subst, arith}
 use Rattle.std.specs.Prelude.{Some, fold, nat_eq, slice_index, sum_by, if◌then◌else◌}
 use Rattle.std.specs.List.{AllByRecursion, range_with_len}
 use Rattle.std.proofs.lemmas.List.{get_or_append_left, get_or-append-add, map-append, length-map}
@@ -13,7 +13,6 @@ use Rattle.un_isa.specs.PacketCounts.{places_of, share_of}
 use Rattle.un_isa.specs.declared.packet_counts.Resource.{Resource}
 use Rattle.un_isa.specs.declared.table.Table.{Table}
 use Rattle.un_model.specs.Instructions.{needs_by}
-use Rattle.un_model.specs.Pairs.{places_from}
 use Rattle.un_model.specs.Variables.{var_at}
 use Rattle.un_length.specs.Blocks.{cycle_of, taken_by, taken, FitsBlock}
 use Rattle.un_length.specs.Places.{at_place, Leads}

@@ -1,7 +1,6 @@
 -- A row that the ends of a solution meet holds below a limit that the solution costs less than.
-use Rattle.std.proofs.Common.{ℕ, ◌≡◌, ◌≤◌, ◌<◌, ◌+◌, ◌-◌, ◌*◌, Bool, true, false, ◌||◌, List, [], ◌∷◌, map, max, inl, inr, refl, sym, ap, ◌∙◌}
+use Rattle.std.proofs.Common.{ℕ, ◌≡◌, ◌≤◌, ◌<◌, ◌+◌, ◌-◌, ◌*◌, Bool, true, false, ◌||◌, List, [], ◌∷◌, map, max, inl, inr, refl, ap, ◌∙◌}
 use Rattle.std.proofs.Common.{arith, All, Contains}
-use Rattle.std.specs.Prelude.{nat_le}
 use Rattle.std.specs.List.{list_all, list_any}
 use Rattle.un_base.specs.declared.ids.VarId.{VarId}
 use Rattle.un_ir.specs.declared.extended.ExtBlock.{ExtBlock}

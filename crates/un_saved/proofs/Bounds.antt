@@ -1,54 +1,39 @@
 -- What a block takes and hands over of the saved values: the results of its first operation, and what its last one reads.
-use Rattle.std.proofs.Common.{ℕ, zero, suc, ◌≡◌, ◌<◌, ◌≤◌, ◌+◌, Bool, true, false, List, [], ◌∷◌, length, map, filter, inl, inr, refl, sym}
-use Rattle.std.proofs.Common.{ap, ◌∙◌, subst, arith, cond}
-use Rattle.std.specs.Prelude.{Option, Some, None, slice_get, ◌&&◌, ◌==◌, nat_le, IfSome, count_by}
-use Rattle.std.specs.List.{range_with_len}
+use Rattle.std.proofs.Common.{ℕ, zero, suc, ◌≡◌, ◌+◌, true, List, [], ◌∷◌, length, map, refl, sym}
+use Rattle.std.proofs.Common.{ap, ◌∙◌, subst, arith}
+use Rattle.std.specs.Prelude.{Option, Some, None, slice_get}
 use Rattle.std.specs.Option.{option_map}
-use Rattle.std.proofs.lemmas.Bool.{eqb-true}
-use Rattle.std.proofs.lemmas.List.Sums.{sum_by-cons}
 use Rattle.un_base.specs.declared.ids.TempId.{TempId}
-use Rattle.un_isa.specs.Registers.{saved_registers}
-use Rattle.un_isa.specs.declared.op.Op.{Op}
-use Rattle.un_isa.specs.declared.op.Op.TheVariants.{Spill}
-use Rattle.un_isa.specs.declared.reg.TheConstants.{FIRST_SLOT}
 use Rattle.un_ir.specs.declared.extended.ExtKind.{ExtKind}
 use Rattle.un_ir.specs.declared.extended.ExtKind.TheVariants.{In, Out, Body, End, Copy, Enter, Leave}
 use Rattle.un_ir.specs.declared.extended.Operand.{Operand}
 use Rattle.un_ir.specs.declared.extended.ExtOp.{ExtOp}
 use Rattle.un_ir.specs.declared.extended.ExtBlock.{ExtBlock}
 use Rattle.un_ir.specs.declared.extended.Ext.{Ext}
-use Rattle.un_ir.specs.Extended.{temp, is_copy, result_count, wants_of, Want}
+use Rattle.un_ir.specs.Extended.{temp, is_copy, result_count}
 use Rattle.un_ir.specs.Kinds.{is_mandatory}
-use Rattle.un_ir.specs.Linear.{first_of, is_in}
+use Rattle.un_ir.specs.Linear.{first_of}
 use Rattle.un_model.specs.declared.model.Options.{Options}
 use Rattle.un_model.specs.declared.schedule.LiveRange.{LiveRange}
 use Rattle.un_model.specs.declared.schedule.Read.{Read}
 use Rattle.un_model.specs.Congruences.{live_in_temps, live_out_reads, register_of, register_read}
 use Rattle.un_model.specs.Pairs.{places_from}
-use Rattle.un_model.specs.Schedules.{schedule_of, reads_of, read_of, choice_of, cycle_by}
-use Rattle.un_model.specs.Solutions.{IsPlacedAs}
+use Rattle.un_model.specs.Schedules.{reads_of, read_of}
 use Rattle.un_model.specs.Variables.{model_of, var_at, ops_count}
-use Rattle.un_lists.proofs.Lists.{Each, Pairwise, Member, each_member, each_more, each_of, each_map, member_at, member_map}
-use Rattle.un_lists.proofs.Lists.{member_of_filter, pairwise_map, pairwise_more, pairwise_of_map, pairwise_filter, length_get}
+use Rattle.un_lists.proofs.Lists.{Member, member_at, member_map}
+use Rattle.un_lists.proofs.Lists.{length_get}
 use Rattle.un_model.proofs.Operations.{placed_get}
-use Rattle.un_model.proofs.Placed.{Placed, Region, region_placed, vars_of, end_of, issue_at, Spot, spot, spots_of}
+use Rattle.un_model.proofs.Placed.{Placed, Region, region_placed, vars_of, issue_at, Spot, spot, spots_of}
 use Rattle.un_model.proofs.PlacedSchedules.{all, spots, the_ranges, range_get, range_here, one_spot, definer_in, member_joined, member_places}
 use Rattle.un_model.proofs.Readings.{Solved, numbered, fit_kinds, placed_good, reading}
 use Rattle.un_model.proofs.TempKinds.{spot_carried, carried_is}
-use Rattle.un_press.proofs.Counting.{Differ, length_mapped}
 use Rattle.un_press.proofs.Crossings.{reg_of, is_active}
-use Rattle.un_press.proofs.Descent.{cycle_at}
-use Rattle.un_press.proofs.Entering.{entry_late}
-use Rattle.un_press.proofs.Kept.{entry_starts}
 use Rattle.un_press.proofs.Premises.{reads_active}
-use Rattle.un_press.proofs.Spilling.{Several, SpilledBy, placed_issue, result_at, same_end, slot_spilled, true_le}
-use Rattle.un_saved.specs.Saved.{saved_in, saved_out, end_operands, hands_own, reads_own}
-use Rattle.un_saved.specs.Standing.{place_at, handed_at, is_slot, in_slots}
-use Rattle.un_saved.specs.declared.boundary.Boundary.{Boundary}
-use Rattle.un_saved.specs.declared.boundary.Boundary.TheVariants.{EndOf}
-use Rattle.un_model.proofs.Regions.{region_is, region_of, of_region}
+use Rattle.un_press.proofs.Spilling.{result_at}
+use Rattle.un_saved.specs.Saved.{saved_in, end_operands}
+use Rattle.un_model.proofs.Regions.{region_is}
 use Rattle.un_model.proofs.RegionEnds.{all_regions, region_end, region_good, region_member, the_end, last_member, end_reads, end_read}
-use Rattle.un_saved.proofs.OnePlace.{and_both, drop_get, end_is, in_is, live_in_is, saved_at, saved_number}
+use Rattle.un_saved.proofs.OnePlace.{drop_get, end_is, in_is, live_in_is}
 
 -- ---- lists
 

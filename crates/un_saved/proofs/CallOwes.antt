@@ -1,7 +1,7 @@
 -- The Reloads that a call owes to the names which cross it, beside the saved values, in a block which hands those over where it takes them:
 -- each is ready for an operation before the block's end.
 use Rattle.std.proofs.Common.{ℕ, ◌≡◌, ◌<◌, ◌≤◌, ◌+◌, Bool, true, false, List, [], ◌∷◌, length, refl, sym, ap, ◌∙◌, subst, arith, eq-eqb}
-use Rattle.std.specs.Prelude.{Option, Some, None, slice_get, ◌==◌, ◌||◌, nat_lt, nat_le, is_some, IfSome, count_by}
+use Rattle.std.specs.Prelude.{Option, Some, None, slice_get, ◌==◌, ◌||◌, nat_lt, is_some, IfSome, count_by}
 use Rattle.un_base.specs.declared.ids.TempId.{TempId}
 use Rattle.un_isa.specs.Registers.{callee_saved, saved_registers}
 use Rattle.un_isa.specs.Tables.{latency_of}

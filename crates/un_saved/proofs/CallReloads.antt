@@ -3,7 +3,7 @@
 -- call keeps beside the saved values that stand in registers.
 use Rattle.std.proofs.Common.{ℕ, zero, suc, ◌≡◌, ◌<◌, ◌≤◌, ◌+◌, Bool, true, false, List, [], ◌∷◌, ◌++◌, length, map, filter, ◌⊎◌, inl, inr}
 use Rattle.std.proofs.Common.{refl, sym, ap, ◌∙◌, subst, arith, cond}
-use Rattle.std.specs.Prelude.{Option, Some, None, slice_get, nat_le, IfSome, option_and_then}
+use Rattle.std.specs.Prelude.{Option, Some, slice_get, IfSome, option_and_then}
 use Rattle.std.specs.List.{range_with_len}
 use Rattle.std.proofs.lemmas.List.{length-append}
 use Rattle.un_base.specs.declared.ids.TempId.{TempId}
@@ -28,13 +28,13 @@ use Rattle.un_model.specs.Schedules.{schedule_of, choice_of, cycle_by, value_by}
 use Rattle.un_model.specs.Solutions.{IsPlacedAs}
 use Rattle.un_model.specs.Variables.{model_of}
 use Rattle.un_lists.proofs.Lists.{Each, Pairwise, Member, each_member, each_of, each_map, member_of_filter, pairwise_map, pairwise_more}
-use Rattle.un_lists.proofs.Lists.{pairwise_of_map, pairwise_filter, member_map_of}
+use Rattle.un_lists.proofs.Lists.{pairwise_of_map, pairwise_filter}
 use Rattle.un_model.proofs.Placed.{Placed, Region, region_placed, vars_of, end_of, issue_at, Spot}
-use Rattle.un_model.proofs.PlacedSchedules.{all, spots, the_ranges, one_spot, definer_in}
+use Rattle.un_model.proofs.PlacedSchedules.{all, the_ranges, one_spot, definer_in}
 use Rattle.un_model.proofs.Readings.{Solved, numbered, reading}
 use Rattle.un_model.proofs.TempKinds.{spot_carried}
 use Rattle.un_press.proofs.Counting.{Differ, length_mapped}
-use Rattle.un_press.proofs.Crossings.{reg_of, Crossing, Carried, carried_all, carried_values, spot_in, spot_member, spot_value, in_slot}
+use Rattle.un_press.proofs.Crossings.{reg_of, Carried, carried_all, carried_values, spot_in, spot_member, spot_value, in_slot}
 use Rattle.un_press.proofs.Crossings.{Differs, call_keeps, many_in_slots, values_differ}
 use Rattle.un_press.proofs.Descent.{cycle_at, Reader, IsOnTheWay}
 use Rattle.un_press.proofs.Kept.{saved_cover}
@@ -43,11 +43,10 @@ use Rattle.un_press.proofs.Reloading.{NeedsRegister, Wanted, crossings, no_reade
 use Rattle.un_press.proofs.Spilling.{Several, one_placed, placed_issue, same_end, true_le}
 use Rattle.un_saved.specs.Saved.{saved_in, saved_out, end_operands, keeps_places}
 use Rattle.un_saved.specs.Standing.{place_at, taken_at, is_slot, in_slots}
-use Rattle.un_saved.specs.declared.boundary.Boundary.{Boundary}
 use Rattle.un_saved.specs.declared.boundary.Boundary.TheVariants.{StartOf}
 use Rattle.un_model.proofs.Regions.{of_region}
 use Rattle.un_model.proofs.RegionEnds.{all_regions, region_end, region_member, filter_append}
-use Rattle.un_saved.proofs.Bounds.{last, all_last, block_is, end_reads_out, Starts, starts, saved_apart, register_is}
+use Rattle.un_saved.proofs.Bounds.{last, all_last, block_is, end_reads_out, starts, saved_apart, register_is}
 use Rattle.un_saved.proofs.EntrySpills.{range_differ, range_below, count_filter}
 use Rattle.un_saved.proofs.OnePlace.{drop_get, alone_at, chosen, saved_at, saved_number}
 

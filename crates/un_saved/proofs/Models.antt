@@ -8,7 +8,7 @@ use Rattle.un_model.specs.declared.model.Solution.{Solution}
 use Rattle.un_model.specs.Options.{AreOptions}
 use Rattle.un_model.specs.Schedules.{schedule_of}
 use Rattle.un_model.specs.Solutions.{IsSchedule, IsSolution, latency_gap}
-use Rattle.un_model.specs.Variables.{IsModel, model_of}
+use Rattle.un_model.specs.Variables.{IsModel}
 use Rattle.un_model.proofs.Readings.{Solved}
 use Rattle.un_saved.specs.Standing.{place_at, IsJoined, in_slots}
 use Rattle.un_saved.specs.declared.boundary.Boundary.{Boundary}

@@ -3,7 +3,7 @@
 -- temporary for them.
 use Rattle.std.proofs.Common.{ℕ, zero, suc, ◌≡◌, ◌<◌, ◌≤◌, ◌+◌, ◌-◌, Bool, true, false, List, [], ◌∷◌, ◌++◌, length, refl, sym, ap, ◌∙◌}
 use Rattle.std.proofs.Common.{subst, arith, drop}
-use Rattle.std.specs.Prelude.{Option, Some, None, slice_get, slice_index, ◌&&◌, ◌==◌, if◌then◌else◌, option_and_then, count_by, unwrap_or}
+use Rattle.std.specs.Prelude.{Option, Some, slice_get, slice_index, ◌&&◌, ◌==◌, if◌then◌else◌, option_and_then, count_by, unwrap_or}
 use Rattle.std.specs.List.{range_with_len}
 use Rattle.std.specs.Option.{option_map}
 use Rattle.std.proofs.lemmas.Bool.{eqb-true}
@@ -23,25 +23,22 @@ use Rattle.un_ir.specs.Extended.{IsGoodExtBlock, temp, result_count}
 use Rattle.un_ir.specs.Kinds.{has_choices}
 use Rattle.un_ir.specs.Linear.{first_of, is_in, is_out, place_by, place_over}
 use Rattle.un_model.specs.declared.model.Options.{Options}
-use Rattle.un_model.specs.declared.schedule.LiveRange.{LiveRange}
-use Rattle.un_model.specs.declared.schedule.Read.{Read}
 use Rattle.un_model.specs.declared.schedule.Schedule.{Schedule}
 use Rattle.un_model.specs.Congruences.{live_in_temps, live_out_reads, register_of, register_read, results_of_start, HandsOver, HandsOn}
 use Rattle.un_model.specs.Schedules.{schedule_of, reads_of, value_by, choice_of}
 use Rattle.un_model.specs.Variables.{model_of, var_at, choice_place, chosen_operands}
 use Rattle.un_lists.proofs.Lists.{Each, Member, each_member, member_at, get_below, length_get, slice_get-map}
 use Rattle.un_model.proofs.OpDomains.{in_entry, choice_sits}
-use Rattle.un_model.proofs.Operations.{contains_member}
-use Rattle.un_model.proofs.Placed.{Placed, Region, vars_of}
+use Rattle.un_model.proofs.Placed.{Placed, vars_of}
 use Rattle.un_model.proofs.PlacedSchedules.{all, the_ranges, get_range}
 use Rattle.un_model.proofs.Readings.{Solved, good, placed_domains, all_member}
-use Rattle.un_saved.specs.Saved.{saved_in, saved_out, end_operands, reads_alone, read_alone, keeps_places}
+use Rattle.un_saved.specs.Saved.{saved_in, saved_out, end_operands, reads_alone, read_alone}
 use Rattle.un_saved.specs.Standing.{place_at, taken_at, handed_at, Leads, Keeps, IsJoined, entry, on, back, through}
 use Rattle.un_saved.specs.declared.boundary.Boundary.{Boundary}
 use Rattle.un_saved.specs.declared.boundary.Boundary.TheVariants.{StartOf, EndOf}
 use Rattle.un_saved.specs.Standing.{within, is_slot, in_slots}
-use Rattle.un_model.proofs.Regions.{region_is, region_of, Ended}
-use Rattle.un_model.proofs.RegionEnds.{all_regions, region_end, the_end, last_member, end_read}
+use Rattle.un_model.proofs.Regions.{region_is, region_of}
+use Rattle.un_model.proofs.RegionEnds.{region_end, the_end, last_member, end_read}
 
 -- ---- lists
 

@@ -12,14 +12,12 @@ use Rattle.un_isa.specs.declared.reg.TheConstants.{FIRST_SLOT}
 use Rattle.un_ir.specs.declared.extended.ExtKind.{ExtKind}
 use Rattle.un_ir.specs.declared.extended.ExtKind.TheVariants.{In, Out, Body, End, Copy, Enter, Leave}
 use Rattle.un_ir.specs.declared.extended.Operand.{Operand}
-use Rattle.un_ir.specs.declared.extended.ExtOp.{ExtOp}
 use Rattle.un_ir.specs.declared.extended.ExtBlock.{ExtBlock}
 use Rattle.un_ir.specs.declared.extended.Ext.{Ext}
 use Rattle.un_ir.specs.Extended.{temp, is_copy, wants_of, Want}
 use Rattle.un_ir.specs.Kinds.{is_delimiter, is_mandatory}
 use Rattle.un_ir.specs.Linear.{first_of}
 use Rattle.un_model.specs.declared.model.Options.{Options}
-use Rattle.un_model.specs.declared.schedule.LiveRange.{LiveRange}
 use Rattle.un_model.specs.Congruences.{register_of}
 use Rattle.un_model.specs.Instructions.{instruction_of, latency_by}
 use Rattle.un_model.specs.Schedules.{schedule_of, choice_of, cycle_by, value_by}
@@ -28,8 +26,8 @@ use Rattle.un_model.specs.Variables.{model_of, var_at, ops_count}
 use Rattle.un_lists.proofs.Lists.{Each, Pairwise, Member, any_of, each_member, each_of, each_map, member_at, member_of_filter, pairwise_map}
 use Rattle.un_lists.proofs.Lists.{pairwise_more, pairwise_of_map, pairwise_filter, place_of as position_of}
 use Rattle.un_model.proofs.Operations.{placed_get}
-use Rattle.un_model.proofs.Placed.{Placed, Region, region_placed, vars_of, end_of, issue_at, Spot}
-use Rattle.un_model.proofs.PlacedSchedules.{all, spots, the_ranges, one_spot, definer_in}
+use Rattle.un_model.proofs.Placed.{Placed, Region, region_placed, vars_of, end_of, issue_at}
+use Rattle.un_model.proofs.PlacedSchedules.{all, the_ranges, one_spot, definer_in}
 use Rattle.un_model.proofs.Readings.{Solved, numbered, placed_domains, reading}
 use Rattle.un_model.proofs.TempKinds.{carried_at, spot_carried}
 use Rattle.un_press.specs.Accesses.{takes_register}
@@ -38,15 +36,14 @@ use Rattle.un_press.proofs.Crossings.{reg_of, held_spot, held_member, held_activ
 use Rattle.un_press.proofs.Descent.{cycle_at, Reader, Held, IsOnTheWay, held}
 use Rattle.un_press.proofs.Premises.{reads_active, takes_needs}
 use Rattle.un_press.proofs.Reloading.{NeedsRegister, no_reader, reloads}
-use Rattle.un_press.proofs.Spilling.{Several, by_end, placed_issue, same_end, true_le}
+use Rattle.un_press.proofs.Spilling.{Several, by_end, placed_issue, same_end}
 use Rattle.un_saved.specs.Reads.{reads_low, reads_saved}
 use Rattle.un_saved.specs.Saved.{saved_in}
 use Rattle.un_saved.specs.Standing.{place_at, taken_at, is_slot, in_slots}
-use Rattle.un_saved.specs.declared.boundary.Boundary.{Boundary}
 use Rattle.un_saved.specs.declared.boundary.Boundary.TheVariants.{StartOf}
 use Rattle.un_model.proofs.Regions.{of_region}
 use Rattle.un_model.proofs.RegionEnds.{all_regions, region_member}
-use Rattle.un_saved.proofs.Bounds.{block_is, number_is, Starts, starts, saved_apart, register_is}
+use Rattle.un_saved.proofs.Bounds.{block_is, Starts, starts, saved_apart, register_is}
 use Rattle.un_saved.proofs.EntrySpills.{range_differ, range_below, count_filter, slot_register}
 use Rattle.un_saved.proofs.OnePlace.{and_both, saved_at, saved_number}
 

@@ -1,6 +1,6 @@
 -- The saved values of a block: the callee-saved registers' and the link's, which it takes behind the values of its names, and which its end
 -- reads behind them.
-use Rattle.std.specs.Prelude.{ℕ, ◌==◌, Bool, true, false, ◌&&◌, if◌then◌else◌, List, [], ◌∷◌, drop, length}
+use Rattle.std.specs.Prelude.{◌==◌, Bool, true, false, ◌&&◌, if◌then◌else◌, List, [], ◌∷◌, drop, length}
 use Rattle.un_base.specs.declared.ids.TempId.{TempId}
 use Rattle.un_ir.specs.Linear.{first_of, is_out}
 use Rattle.un_ir.specs.declared.extended.ExtBlock.{ExtBlock}

@@ -1,5 +1,5 @@
 -- From where an engine went down stays as it is, down and up.
-use Rattle.std.proofs.Common.{ℕ, ◌≡◌, ◌+◌, List, [], ◌∷◌, ◌++◌, length, refl, sym, ap, ◌∙◌, arith}
+use Rattle.std.proofs.Common.{◌≡◌, ◌+◌, List, [], ◌∷◌, ◌++◌, length, refl, sym, ap, ◌∙◌, arith}
 use Rattle.un_domains.specs.Cuts.{Contents}
 use Rattle.un_domains.specs.Sets.{Sets}
 use Rattle.un_engine.specs.Ends.{IsDeeper}

@@ -12,7 +12,7 @@ use Rattle.un_model.specs.declared.model.Model.{Model}
 use Rattle.un_post.specs.Posts.{fix_at, largest_horizon}
 use Rattle.un_prop.specs.Pruning.{HasRoom}
 use Rattle.un_prop.specs.declared.propagator.Scratch.{Scratch}
-use Rattle.un_tree.specs.Boxes.{IsBox, Splits, reached}
+use Rattle.un_tree.specs.Boxes.{Splits, reached}
 use Rattle.un_tree.specs.declared.node.Decision.{Decision}
 use Rattle.un_walk.proofs.Paths.{last_once, snoc_some}
 use Rattle.un_walk.proofs.StandLemmas.{box_here}

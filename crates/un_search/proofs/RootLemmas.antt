@@ -1,10 +1,10 @@
 -- Stores at the first box: as they are posted, after a search, and under a lower limit.
-use Rattle.std.proofs.Common.{ℕ, ◌≡◌, ◌≤◌, List, [], ◌∷◌, length, map, Option, None, Some, All, refl, sym, ap, ◌∙◌, subst, arith}
+use Rattle.std.proofs.Common.{ℕ, ◌≡◌, ◌≤◌, List, [], length, map, Option, None, Some, All, sym, ap, ◌∙◌, subst, arith}
 use Rattle.std.specs.Prelude.{IfSome}
 use Rattle.un_domains.specs.OrderLaws.{Below-refl}
 use Rattle.un_domains.specs.Sets.{Sets, NoneEmpty}
 use Rattle.un_model.specs.declared.model.Model.{Model}
-use Rattle.un_prop.specs.Pruning.{HasRoom, IsFix}
+use Rattle.un_prop.specs.Pruning.{IsFix}
 use Rattle.un_prop.specs.Rounds.{fix_of}
 use Rattle.un_prop.specs.declared.run.Fix.{Fix}
 use Rattle.un_prop.specs.declared.run.Fix.TheVariants.{Stable, Failed as Fails}
@@ -13,7 +13,6 @@ use Rattle.un_kinds.specs.Scopes.{IsTight}
 use Rattle.un_kinds.specs.declared.any.AnyProp.{AnyProp}
 use Rattle.un_post.specs.Listed.{all_postings_of}
 use Rattle.un_post.specs.Lowered.{AreTighter, IsLowering, limit_place, with_lower}
-use Rattle.un_post.specs.Postable.{IsPostable}
 use Rattle.un_post.specs.Posts.{ReadsFrom, fix_at}
 use Rattle.un_post.specs.declared.lower.Lowered.{Lowered}
 use Rattle.un_engine.proofs.EngineLaws.{failed_is, stable_is}
@@ -21,8 +20,8 @@ use Rattle.un_engine.specs.Engines.{State}
 use Rattle.un_certificate.proofs.Posting.{are_posted}
 use Rattle.un_model.specs.Boxes.{root_of}
 use Rattle.un_certificate.specs.ModelLaws.{posted_inside}
-use Rattle.un_certificate.specs.Posted.{ArePosted, IsPosted}
-use Rattle.un_search.specs.Roots.{AreAtRoot, IsLost, IsRoot, IsRooted}
+use Rattle.un_certificate.specs.Posted.{ArePosted}
+use Rattle.un_search.specs.Roots.{AreAtRoot, IsLost, IsRoot}
 use Rattle.un_search.specs.Stores.{AreStores}
 use Rattle.un_search.specs.declared.root.Root.{Root}
 use Rattle.un_search.specs.declared.rounds.ModelStores.{ModelStores}

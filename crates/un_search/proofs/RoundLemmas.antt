@@ -1,9 +1,8 @@
 -- Steps of the rounds of a model.
-use Rattle.std.proofs.Common.{ℕ, ◌≡◌, ◌<◌, ◌≤◌, ◌+◌, Bool, true, false, cond, List, [], ◌∷◌, ◌++◌, length, get_or, filter, nat_eq}
-use Rattle.std.proofs.Common.{Option, None, Some, option_and_then, MatchOption, All, map, refl, sym, ap, ◌∙◌, subst, arith, inl, inr}
+use Rattle.std.proofs.Common.{ℕ, ◌≡◌, ◌<◌, ◌≤◌, ◌+◌, true, List, [], ◌∷◌, ◌++◌, length, get_or}
+use Rattle.std.proofs.Common.{Option, Some, MatchOption, All, map, refl, sym, ap, ◌∙◌, subst, arith, inl, inr}
 use Rattle.std.proofs.lemmas.Bool.{cases_lt}
-use Rattle.std.proofs.lemmas.Bool.Decides.{nat_tests}
-use Rattle.std.proofs.lemmas.List.{get_or-set_same, length-set, get_or_append_left, get_or_at}
+use Rattle.std.proofs.lemmas.List.{get_or_append_left, get_or_at}
 use Rattle.std.specs.List.{AllByRecursion}
 use Rattle.std.proofs.lemmas.List.Elements.{All-from_recursion}
 use Rattle.un_domains.specs.OrderLaws.{has_here, has_later}
@@ -13,18 +12,12 @@ use Rattle.un_model.specs.Variables.{own_horizon}
 use Rattle.un_post.specs.Posts.{largest_horizon}
 use Rattle.un_prop.specs.Pruning.{HasRoom}
 use Rattle.un_prop.specs.declared.propagator.Scratch.{Scratch}
-use Rattle.un_domains.specs.Sets.{Sets, set_at, has, kept, cut_by, least, IsSingle, NoneEmpty}
-use Rattle.un_prop.specs.Pruning.{IsFix}
-use Rattle.un_domains.specs.Sides.{side_test}
-use Rattle.un_prop.specs.declared.run.Fix.{Fix}
-use Rattle.un_prop.specs.declared.run.Fix.TheVariants.{Stable as Rests, Failed as Lost}
+use Rattle.un_domains.specs.Sets.{Sets, set_at, has, least, IsSingle}
 use Rattle.un_kinds.specs.declared.any.AnyProp.{AnyProp}
 use Rattle.un_model.specs.declared.model.Model.{Model}
 use Rattle.un_post.specs.Posts.{fix_at}
-use Rattle.un_tree.specs.Boxes.{IsBox, decided}
-use Rattle.un_tree.specs.declared.node.Decision.{Decision}
+use Rattle.un_tree.specs.Boxes.{IsBox}
 use Rattle.un_model.specs.Boxes.{root_of}
-use Rattle.un_engine.proofs.EngineLaws.{all_snoc}
 use Rattle.un_bound.specs.declared.relax.RelaxAnswer.{RelaxAnswer}
 use Rattle.un_bound.specs.declared.relax.RelaxAnswer.TheVariants.{Empty, Least}
 use Rattle.un_bound.specs.Relaxations.{IsLeast, IsRelaxation}
@@ -34,9 +27,8 @@ use Rattle.un_branching.specs.declared.problem.Look.TheVariants.{Failed, Found, 
 use Rattle.un_tree.specs.Searched.{HasTwo}
 use Rattle.un_model.specs.Boxes.{IsBelow}
 use Rattle.un_search.specs.Looks.{IsLookOf}
-use Rattle.un_certificate.specs.ModelLaws.{posted_inside, posted_single, posted_empty}
+use Rattle.un_certificate.specs.ModelLaws.{posted_single, posted_empty}
 use Rattle.un_certificate.specs.Posted.{ArePosted}
-use Rattle.un_search.specs.Stores.{AreStores}
 
 -- the first variables have these values alone
 pub record HasValues (s : Sets) (n : ℕ) (x : List ℕ) : Type 0 where

@@ -1,5 +1,5 @@
 -- Stores at the first box of a model, under a limit that may fall.
-use Rattle.std.specs.Prelude.{ℕ, ◌≡◌, List, [], Option, Some, None, ⊤}
+use Rattle.std.specs.Prelude.{ℕ, ◌≡◌, [], Option, Some, None, ⊤}
 use Rattle.un_domains.specs.Sets.{NoneEmpty}
 use Rattle.un_model.specs.declared.model.Model.{Model}
 use Rattle.un_post.specs.Lowered.{limit_place}

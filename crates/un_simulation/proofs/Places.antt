@@ -1,5 +1,5 @@
 -- How a value stands in a place, worked out by hand: a predicate is 255 in a general register and in a slot of the frame.
-use Rattle.std.specs.Prelude.{ℕ, ◌≡◌}
+use Rattle.std.specs.Prelude.{◌≡◌}
 use Rattle.std.proofs.Common.{refl}
 use Rattle.un_isa.specs.declared.reg.TheConstants.{FIRST_SLOT}
 use Rattle.un_ir.specs.declared.function.Kind.TheVariants.{General, Pred}

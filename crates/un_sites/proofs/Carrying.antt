@@ -10,7 +10,7 @@ use Rattle.std.proofs.lemmas.List.Folds.{list_any-append}
 use Rattle.un_base.specs.declared.ids.TempId.{TempId}
 use Rattle.un_ir.specs.declared.extended.Operand.{Operand}
 use Rattle.un_ir.specs.Linear.{first_of}
-use Rattle.un_lists.proofs.Lists.{Each, Pairwise, Member, each_member, any_of}
+use Rattle.un_lists.proofs.Lists.{Each, Pairwise, Member, any_of}
 use Rattle.un_sites.specs.Crossings.{reads_value, is_carried, first_new, handed_by, handed}
 use Rattle.un_sites.specs.Places.{Place}
 

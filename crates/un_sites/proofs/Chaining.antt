@@ -1,7 +1,7 @@
 -- What chains of arcs lead to is reached by one pass over the arcs of a block, since they stand by rising ends. So what crosses a call
 -- by chains is counted to cross it.
-use Rattle.std.proofs.Common.{ℕ, zero, suc, ◌≡◌, ◌≢◌, ◌<◌, ◌≤◌, ◌+◌, ◌⊎◌, Bool, true, false, not, ◌&&◌, ◌||◌, List, [], ◌∷◌, ◌++◌, length, fold, filter, map}
-use Rattle.std.proofs.Common.{inl, inr, refl, sym, ap, ◌∙◌, subst, arith, nat_eq, Some, None, slice_get, All, eq-eqb}
+use Rattle.std.proofs.Common.{ℕ, zero, suc, ◌≡◌, ◌≢◌, ◌<◌, ◌≤◌, ◌+◌, ◌⊎◌, Bool, true, false, not, ◌&&◌, ◌||◌, List, [], ◌∷◌, length, fold, filter, map}
+use Rattle.std.proofs.Common.{inl, inr, refl, sym, ap, ◌∙◌, subst, arith, nat_eq, Some, None, slice_get, eq-eqb}
 use Rattle.std.specs.declared.option.Option.{Option}
 use Rattle.std.specs.Prelude.{AllPairs, Contains, ◌==◌, if◌then◌else◌, slice_index_or}
 use Rattle.std.specs.List.{list_any}
@@ -18,17 +18,16 @@ use Rattle.un_ir.specs.declared.extended.Operand.{Operand}
 use Rattle.un_isa.specs.declared.table.Table.{Table}
 use Rattle.un_model.specs.ArcLaws.{arc_told, arcs_rise}
 use Rattle.un_model.specs.Arcs.{block_arcs, blocks_arcs, IsArcOf, RisesTo}
-use Rattle.un_model.specs.Pairs.{joined}
 use Rattle.un_model.specs.Variables.{IsModel, model_of}
 use Rattle.un_model.specs.declared.model.Arc.{Arc}
 use Rattle.un_model.specs.declared.model.Model.{Model}
 use Rattle.un_model.specs.declared.model.TempVars.{TempVars}
 use Rattle.un_lists.proofs.Lists.{Each, Member, each_member, each_of, member_filter, member_map}
 use Rattle.un_model.proofs.PlacedSchedules.{member_joined}
-use Rattle.un_sites.specs.Crossings.{reads_value, is_asked, is_ahead, is_loose, is_carried, is_crossing, handed, crossing}
+use Rattle.un_sites.specs.Crossings.{reads_value, is_asked, is_ahead, is_loose, is_crossing, handed, crossing}
 use Rattle.un_sites.specs.Places.{Place}
 use Rattle.un_sites.specs.Rooms.{arcs_or, led_by, reached, is_before, is_behind, temps_in}
-use Rattle.un_sites.specs.Sure.{Chain, here, along, Reads, SurelyCrosses}
+use Rattle.un_sites.specs.Sure.{Chain, here, along, SurelyCrosses}
 
 -- ---- lists
 

@@ -15,7 +15,7 @@ use Rattle.un_ir.specs.Kinds.{is_call_kind}
 use Rattle.un_ir.specs.declared.function.Term.TheVariants.{Fall}
 use Rattle.un_ir.specs.declared.extended.TheConstants.{SPILL, RELOAD}
 use Rattle.un_ir.specs.declared.extended.ExtKind.{ExtKind}
-use Rattle.un_ir.specs.declared.extended.ExtKind.TheVariants.{Out, Body, End, Copy}
+use Rattle.un_ir.specs.declared.extended.ExtKind.TheVariants.{Out, End, Copy}
 use Rattle.un_ir.specs.declared.extended.Operand.{Operand}
 use Rattle.un_ir.specs.declared.extended.ExtBlock.{ExtBlock}
 use Rattle.un_ir.specs.Extended.{is_copy, is_enter, is_leave}

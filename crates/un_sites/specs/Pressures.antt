@@ -1,5 +1,5 @@
 -- What is posted of pressure: in each cycle of a block, and across each of its calls, there is room for the values that are there.
-use Rattle.std.specs.Prelude.{ℕ, ◌+◌, Bool, false, not, ◌&&◌, nat_le, nat_lt, List, [], ◌∷◌, Option, Some, None, filter, length, map, slice_get}
+use Rattle.std.specs.Prelude.{ℕ, ◌+◌, Bool, false, not, ◌&&◌, nat_le, nat_lt, List, ◌∷◌, Option, Some, None, filter, length, map, slice_get}
 use Rattle.std.specs.List.{list_any, range_with_len}
 use Rattle.un_base.specs.declared.ids.TempId.{TempId}
 use Rattle.un_isa.specs.Tables.{in_mask}

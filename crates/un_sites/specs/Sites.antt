@@ -1,9 +1,6 @@
 -- What the code names operations and definers by.
-use Rattle.std.specs.Prelude.{Bool, true, false, List, map, Option, None, Some}
+use Rattle.std.specs.Prelude.{List, map, Option, None, Some}
 use Rattle.un_base.specs.declared.ids.VarId.{VarId}
-use Rattle.un_ir.specs.declared.function.Term.TheVariants.{Fall}
-use Rattle.un_ir.specs.declared.extended.ExtKind.{ExtKind}
-use Rattle.un_ir.specs.declared.extended.ExtKind.TheVariants.{End}
 use Rattle.un_prop.specs.declared.act.At.{At}
 use Rattle.un_prop.specs.declared.act.At.TheVariants.{Const, Var}
 use Rattle.un_sites.specs.Places.{Place, Definer, no_place}

@@ -1,5 +1,5 @@
 -- What holds of the variables of a window holds of the same variables after some steps.
-use Rattle.std.proofs.Common.{ℕ, suc, ◌≡◌, ◌≢◌, ◌<◌, ◌+◌, List, length, None, Some, sym, subst, arith}
+use Rattle.std.proofs.Common.{ℕ, suc, ◌≡◌, ◌≢◌, ◌+◌, List, length, None, Some, sym, subst, arith}
 use Rattle.un_base.specs.declared.ids.VarId.{VarId}
 use Rattle.std.specs.declared.option.Option.{Option}
 use Rattle.un_domains.specs.Sets.{Sets, NoneEmpty}

@@ -1,7 +1,7 @@
 -- Laws of counts of crowds.
-use Rattle.std.proofs.Common.{ℕ, zero, suc, ◌≡◌, ◌≢◌, ◌<◌, ◌≤◌, ◌+◌, ◌-◌, ◌*◌, ◌^◌, ◌⊎◌, ◌∙◌, Bool, true, false, not, ◌&&◌, ◌||◌}
+use Rattle.std.proofs.Common.{ℕ, zero, suc, ◌≡◌, ◌≢◌, ◌<◌, ◌≤◌, ◌+◌, ◌-◌, ◌*◌, ◌^◌, ◌⊎◌, ◌∙◌, Bool, true, false, ◌&&◌, ◌||◌}
 use Rattle.std.proofs.Common.{if◌then◌else◌, List, [], ◌∷◌, length, get_or, take, sum_by, min, nat_eq, nat_le, nat_lt, refl, sym, ap}
-use Rattle.std.proofs.Common.{slice_index, slice_set, set, subst, arith, inl, inr}
+use Rattle.std.proofs.Common.{slice_index, slice_set, set, arith, inl, inr}
 use Rattle.std.specs.List.{list_any, AllByRecursion}
 use Rattle.std.proofs.lemmas.Bool.{cases_lt}
 use Rattle.std.proofs.lemmas.Bool.Decides.{nat_tests}

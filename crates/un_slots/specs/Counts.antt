@@ -1,5 +1,5 @@
 -- What the code counts: the items that surely take some of a resource, by their last cycles and by their least.
-use Rattle.std.specs.Prelude.{ℕ, zero, suc, ◌≡◌, ◌<◌, ◌+◌, Bool, true, ◌&&◌, if◌then◌else◌, List, sum_by, nat_eq, nat_lt, slice_index}
+use Rattle.std.specs.Prelude.{ℕ, zero, suc, ◌≡◌, ◌<◌, ◌+◌, Bool, ◌&&◌, if◌then◌else◌, List, sum_by, nat_eq, nat_lt, slice_index}
 use Rattle.un_domains.specs.Sets.{Sets, set_at, least, greatest}
 use Rattle.un_slots.specs.declared.item.Item.{Item}
 use Rattle.un_isa.specs.declared.packet_counts.Resource.{Resource}

@@ -1,5 +1,5 @@
 -- Crowds: where the sure items whose cycles all lie in an interval need more of a resource than its packets have, nothing holds.
-use Rattle.std.specs.Prelude.{ℕ, zero, suc, ◌+◌, ◌-◌, ◌*◌, ◌^◌, Bool, true, not, ◌&&◌, ◌||◌, if◌then◌else◌, List}
+use Rattle.std.specs.Prelude.{ℕ, zero, suc, ◌+◌, ◌-◌, ◌*◌, ◌^◌, Bool, true, not, ◌&&◌, if◌then◌else◌, List}
 use Rattle.std.specs.Prelude.{take, sum_by, nat_eq, nat_le, length, option_and_then}
 use Rattle.std.specs.declared.option.Option.{Option}
 use Rattle.std.specs.List.{list_any, list_all}

@@ -1,5 +1,5 @@
 -- The laws of the propagator of packets.
-use Rattle.std.proofs.Common.{ℕ, ◌≡◌, true, List, length, Some, option_and_then}
+use Rattle.std.proofs.Common.{ℕ, ◌≡◌, true, List, length, Some}
 use Rattle.un_base.specs.declared.ids.VarId.{VarId}
 use Rattle.un_domains.specs.Sets.{Sets, IsIn, NoneEmpty, Kept}
 use Rattle.un_prop.specs.Rounds.{HasVars}

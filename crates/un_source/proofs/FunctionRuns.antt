@@ -1,15 +1,12 @@
 -- The blocks of every function can run.
-use Rattle.std.proofs.Common.{◌≡◌, ℕ, ◌<◌, ◌≤◌, ◌^◌, List, Some, length, slice_get, get_or, All, arith}
+use Rattle.std.proofs.Common.{◌<◌, ◌^◌, length, get_or, arith}
 use Rattle.std.proofs.Math.Bridge.{le_prop}
 use Rattle.std.proofs.Math.Logic.{∥∥₁_elim}
 use Rattle.std.proofs.lemmas.Option.{slice_get-get_or}
-use Rattle.un_ir.specs.declared.function.Block.{Block}
-use Rattle.un_ir.specs.declared.function.SrcOp.{SrcOp}
 use Rattle.un_ir.specs.declared.function.Function.{Function}
-use Rattle.un_ir.specs.declared.function.TheConstants.{BLOCKS}
 use Rattle.un_ir.specs.WellFormed.{IsWellFormed}
 use Rattle.un_ir.proofs.FunctionFacts.{entry_there, leads_inside, shifts, calls_one}
-use Rattle.un_source.specs.States.{CanRun, CanRunBlocks}
+use Rattle.un_source.specs.States.{CanRunBlocks}
 
 few_blocks : (f : Function) → length f.blocks < 2 ^ 32
 few_blocks f =

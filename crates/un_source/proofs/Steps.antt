@@ -7,7 +7,7 @@ use Rattle.un_isa.specs.declared.op.Op.{Op}
 use Rattle.un_isa.specs.declared.op.Op.TheVariants.{Load, Store, Call}
 use Rattle.un_ir.specs.declared.function.Block.{Block}
 use Rattle.un_ir.specs.declared.function.SrcOp.{SrcOp}
-use Rattle.un_ir.specs.Source.{SourceState, SourceStep, op_step, step_by, loads, computes, address_in, assigned, Went, SourceRun, enter}
+use Rattle.un_ir.specs.Source.{SourceState, op_step, step_by, loads, computes, address_in, assigned, Went, SourceRun, enter}
 use Rattle.un_ir.specs.Source.{through}
 use Rattle.un_source.specs.declared.blocks.Left.{Left}
 use Rattle.un_source.specs.declared.state.Stop.{Stop}

@@ -9,7 +9,7 @@ use Rattle.un_isa.specs.declared.start.Start.{Start}
 use Rattle.un_ir.specs.declared.function.Block.{Block}
 use Rattle.un_ir.specs.declared.function.Function.{Function}
 use Rattle.un_ir.specs.LinearOf.{AreLive, live_at}
-use Rattle.un_ir.specs.Source.{SourceStop, SourceRun, SourceState, Returned, Trapped, Waiting, Running, source_run}
+use Rattle.un_ir.specs.Source.{SourceStop, SourceRun, Returned, Trapped, Waiting, Running, source_run}
 
 abbrev pub label_in : Option Block → List ℕ
 label_in None = []

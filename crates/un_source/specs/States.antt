@@ -1,10 +1,9 @@
 -- The state that a run keeps, as a state of the source.
-use Rattle.std.specs.Prelude.{ℕ, ◌≡◌, ◌<◌, ◌^◌, All, Contains, slice_get, List, [], ◌∷◌, Option, Some, None, IsSome, map, drop, slice_index}
+use Rattle.std.specs.Prelude.{ℕ, ◌≡◌, ◌<◌, ◌^◌, All, Contains, slice_get, List, Option, Some, None, IsSome, map, drop, slice_index}
 use Rattle.std.specs.Prelude.{length}
 use Rattle.std.specs.Option.{option_map}
 use Rattle.un_base.specs.declared.ids.NameId.{NameId}
 use Rattle.un_isa.specs.declared.start.Reply.{Reply}
-use Rattle.un_isa.specs.declared.outcome.CallRecord.{CallRecord}
 use Rattle.un_isa.specs.Memories.{word_at}
 use Rattle.un_isa.specs.Operands.{IsShift}
 use Rattle.un_isa.specs.declared.op.Op.TheVariants.{Call}

@@ -1,5 +1,5 @@
 -- The lines of a text of a start. Each has one spelling.
-use Rattle.std.specs.Prelude.{ℕ, ◌≡◌, ◌<◌, ◌^◌, List, ◌∷◌, ◌++◌, All, ◌≢◌, codes, decimal, map}
+use Rattle.std.specs.Prelude.{ℕ, ◌≡◌, ◌<◌, ◌^◌, List, ◌∷◌, ◌++◌, ◌≢◌, codes, decimal, map}
 use Rattle.un_base.specs.Lines.{joined_lines}
 use Rattle.un_start.specs.declared.line.Line.{Line}
 use Rattle.un_start.specs.declared.line.Line.TheVariants.{Reg, Mem, Reply, Set, Junk, Blocks}

@@ -1,5 +1,5 @@
 -- The first bad line of the text of a refutation is one, and what is read has none.
-use Rattle.std.proofs.Common.{◌≡◌, ℕ, ◌+◌, ◌<◌, ◌≤◌, ◌⊎◌, inl, inr, List, codes, length, refl, sym, ap, ◌∙◌, arith}
+use Rattle.std.proofs.Common.{◌≡◌, ℕ, ◌+◌, ◌<◌, ◌≤◌, ◌⊎◌, inl, inr, List, codes, length, sym, ap, ◌∙◌, arith}
 use Rattle.std.proofs.lemmas.Bool.{cases_lt}
 use Rattle.std.proofs.lemmas.List.Elements.{recursion_from_All}
 use Rattle.un_commands.specs.Settings.{IsCountOfNodes}
@@ -9,7 +9,6 @@ use Rattle.un_report_reader.specs.FirstBad.{InEnd}
 use Rattle.un_report_reader.specs.Lines.{IsLong, IsName, function_text}
 use Rattle.un_report_reader.proofs.Once.{number_line_once, function_once}
 use Rattle.un_symtree.specs.SymTexts.{SymFits, sym_text}
-use Rattle.un_symtree.specs.declared.node.SymNode.{SymNode}
 use Rattle.un_symtree.proofs.SymTrees.{sym_node_stands}
 use Rattle.un_refutation.proofs.NodeLaws.{nodes_once, no_bad_node}
 use Rattle.un_refutation.proofs.OptionLaws.{options_once}

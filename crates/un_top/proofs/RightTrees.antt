@@ -10,7 +10,6 @@ use Rattle.un_report.specs.declared.report.Report.{Report}
 use Rattle.un_tree.proofs.PlainLaws.{plain_without, strict_sides}
 use Rattle.un_tree.specs.Parts.{IsRight as IsRightIn}
 use Rattle.un_tree.specs.Waits.{HasSides, IsPlain}
-use Rattle.un_tree.specs.declared.node.Node.{Node}
 use Rattle.un_top.specs.Steps.{HasNoSplit}
 
 module _ (name : List ℕ) (m : Model) (r : Report) (right : IsRight name m (claim_of r)) where

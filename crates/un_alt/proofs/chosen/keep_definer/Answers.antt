@@ -1,7 +1,7 @@
-use Rattle.std.proofs.Common.{ℕ, List, Bool, true, false, ◌≡◌, ◌≢◌, ◌<◌, ◌∙◌, not, ◌&&◌, ◌||◌, Some, length, get_or, nat_eq, refl, sym}
+use Rattle.std.proofs.Common.{ℕ, List, Bool, true, false, ◌≡◌, ◌∙◌, not, ◌&&◌, ◌||◌, get_or, nat_eq, refl, sym}
 use Rattle.std.proofs.Common.{ap, subst, arith}
 use Rattle.un_base.specs.declared.ids.VarId.{VarId}
-use Rattle.un_domains.specs.Sets.{Sets, cut_by}
+use Rattle.un_domains.specs.Sets.{cut_by}
 use Rattle.un_prop.specs.Acts.{act_vars}
 use Rattle.un_prop.specs.Among.{among, AllAmong}
 use Rattle.un_prop.specs.AmongLaws.{has_among}

@@ -1,4 +1,4 @@
-use Rattle.std.proofs.Common.{ℕ, Bool, true, false, ◌≡◌, ◌+◌, ◌-◌, ◌≤◌, ◌<◌, ◌∙◌, ◌||◌, sym, ap, arith}
+use Rattle.std.proofs.Common.{ℕ, Bool, true, false, ◌≡◌, ◌+◌, ◌-◌, ◌∙◌, ◌||◌, sym, ap, arith}
 use Rattle.std.specs.List.{list_any, range_with_len}
 use Rattle.un_domains.specs.Sets.{set_at, has}
 use Rattle.un_alt.proofs.Ranges.{range_rest, range_over}

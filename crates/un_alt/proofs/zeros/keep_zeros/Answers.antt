@@ -1,6 +1,5 @@
-use Rattle.std.proofs.Common.{ℕ, List, ◌≡◌, ◌≤◌, ◌∙◌, length, get_or, ap, sym, subst, arith, true}
+use Rattle.std.proofs.Common.{List, ◌∙◌, length, get_or, ap, subst, arith, true}
 use Rattle.un_base.specs.declared.ids.VarId.{VarId}
-use Rattle.un_prop.specs.Among.{among}
 use Rattle.un_prop.specs.EachLaws.{each_next, each_end}
 use Rattle.un_prop.specs.Going.{Stepped}
 use Rattle.un_alt.specs.Zeros.{zero_cut}

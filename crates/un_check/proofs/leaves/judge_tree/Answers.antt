@@ -1,7 +1,4 @@
-use Rattle.std.proofs.Common.{◌≡◌}
 use Rattle.un_certificate.specs.Certificates.{IsStanding}
-use Rattle.un_certificate.specs.Joints.{visits_in}
-use Rattle.un_tree.specs.Waits.{outer_count}
 use Rattle.un_check.specs.Causes.{limit_of}
 use Rattle.un_check.proofs.AnswerLemmas.{tree_cause, on_ok}
 use Rattle.un_check.proofs.leaves.judge_tree.Goals as goal

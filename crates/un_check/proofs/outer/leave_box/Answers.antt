@@ -10,9 +10,7 @@ use Rattle.un_walk.specs.Routes.{paths_after}
 use Rattle.un_walk.specs.Turns.{paths_behind}
 use Rattle.un_walk.proofs.RouteLemmas.{strict_by}
 use Rattle.un_certificate.specs.Joints.{blocks_of}
-use Rattle.un_check.specs.Steps.{outer_stage}
-use Rattle.un_check.specs.Walks.{IsPositionAt, IsStageAt, box_of, outside_of, stage_waits}
-use Rattle.un_check.specs.declared.stage.Stage.{Stage}
+use Rattle.un_check.specs.Walks.{IsStageAt, stage_waits}
 use Rattle.un_check.proofs.StageLemmas.{left_waits, outer_at}
 use Rattle.un_check.proofs.outer.leave_box.Goals as goal
 

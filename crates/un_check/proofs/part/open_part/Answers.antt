@@ -2,7 +2,6 @@ use Rattle.std.proofs.Common.{ℕ, ap, sym, subst, ◌∙◌, ◌∷◌, ◌++�
 use Rattle.std.specs.declared.option.Option.{Option}
 use Rattle.un_domains.specs.Sets.{Sets}
 use Rattle.un_model.specs.Boxes.{root_of}
-use Rattle.un_tree.specs.Boxes.{IsBox}
 use Rattle.un_tree.specs.Waits.{Inside}
 use Rattle.un_walk.proofs.StandLemmas.{cuts_box}
 use Rattle.un_stand.specs.Rooms.{IsPartAt}

@@ -1,8 +1,7 @@
-use Rattle.std.proofs.Common.{All, length, ap, sym, subst, ◌∙◌}
+use Rattle.std.proofs.Common.{length, ap, sym, subst, ◌∙◌}
 use Rattle.un_domains.specs.Order.{Below}
 use Rattle.un_domains.specs.Sets.{Sets, NoneEmpty}
 use Rattle.un_model.specs.Boxes.{root_of}
-use Rattle.un_post.specs.Posts.{ReadsFrom}
 use Rattle.un_certificate.proofs.Posting.{are_part_posted}
 use Rattle.un_stand.proofs.ModelRooms.{first_of_part, reads_at}
 use Rattle.un_stand.specs.Rooms.{IsPartAt}

@@ -1,6 +1,6 @@
-use Rattle.std.proofs.Common.{List, ℕ, Option, ap, sym, subst}
+use Rattle.std.proofs.Common.{List, ℕ, Option, subst}
 use Rattle.un_tree.specs.declared.node.Node.{Node}
-use Rattle.un_check.specs.Causes.{claim_of, limit_of, IsCause, IsRightHead}
+use Rattle.un_check.specs.Causes.{limit_of, IsCause, IsRightHead}
 use Rattle.un_check.specs.Seen.{IsSeen}
 use Rattle.un_check.proofs.ReportLemmas.{told_err, told_ok, sound_told}
 use Rattle.un_check.proofs.report.check_by.Goals as goal

@@ -1,5 +1,4 @@
-use Rattle.std.proofs.Common.{◌≡◌, List, ℕ, Option, sym, subst}
-use Rattle.un_tree.specs.Texts.{Fits, tree_text}
+use Rattle.std.proofs.Common.{ℕ, Option, subst}
 use Rattle.un_check.specs.Causes.{limit_of}
 use Rattle.un_check.specs.Seen.{IsSeen}
 use Rattle.un_check.proofs.ReportLemmas.{told_err, told_ok, view_sound}

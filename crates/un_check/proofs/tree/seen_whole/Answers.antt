@@ -1,5 +1,4 @@
-use Rattle.std.proofs.Common.{◌≡◌, ◌∙◌, List, [], sym, ap}
-use Rattle.un_tree.specs.Waits.{Waiting}
+use Rattle.std.proofs.Common.{◌≡◌, ◌∙◌, sym, ap}
 use Rattle.un_certificate.specs.Joints.{blocks_of}
 use Rattle.un_model.specs.declared.model.Model.{Model}
 use Rattle.un_check.specs.Walks.{box_of, outside_of, stage_waits, waiting_of}

@@ -1,6 +1,3 @@
-use Rattle.std.proofs.Common.{length, ap, subst}
-use Rattle.un_tree.specs.Parts.{part_numbers, told as told_parts}
-use Rattle.un_check.specs.Judging.{IsBehind}
 use Rattle.un_check.specs.Verdicts.{IsNo}
 use Rattle.un_check.specs.Walks.{IsWalk}
 use Rattle.un_check.proofs.LineLemmas.{behind_lines, lines_end, lines_good, next_line, shorter}

@@ -1,9 +1,7 @@
-use Rattle.std.proofs.Common.{ℕ, List, ap, ◌∙◌, subst, sym}
-use Rattle.un_tree.specs.Waits.{Waiting, after}
+use Rattle.std.proofs.Common.{◌∙◌, subst}
 use Rattle.un_certificate.specs.Joints.{blocks_of}
 use Rattle.un_check.specs.Steps.{CanPass}
-use Rattle.un_check.specs.Walks.{IsStageAt, behind, box_of, here, outside_of}
-use Rattle.un_check.specs.declared.stage.Stage.{Stage}
+use Rattle.un_check.specs.Walks.{IsStageAt, box_of, outside_of}
 use Rattle.un_check.proofs.StageLemmas.{begun_waits, from_stage, ok_by, step_part_at}
 use Rattle.un_check.proofs.walk.advance.Goals as goal
 

@@ -1,5 +1,4 @@
-use Rattle.std.proofs.Common.{ℕ, ap, sym, subst, ◌∙◌}
-use Rattle.std.specs.declared.option.Option.{Option}
+use Rattle.std.proofs.Common.{ap, ◌∙◌}
 use Rattle.un_certificate.specs.Joints.{blocks_of}
 use Rattle.un_check.specs.Steps.{over_waits}
 use Rattle.un_check.specs.Walks.{box_of, outside_of}

@@ -2,7 +2,7 @@ use Rattle.std.proofs.Common.{ℕ, List, [], ◌∷◌, ◌++◌, ◌≡◌, ◌
 use Rattle.std.proofs.lemmas.List.{length-set, drop_all, take_all, drop-append-le, take-append-le, length_push}
 use Rattle.un_domains.specs.declared.levels.Saved.{Saved}
 use Rattle.un_domains.specs.Levels.{unwind, unstamp}
-use Rattle.un_domains.specs.LevelLaws.{unwind_one, unstamp_one, there_popped, last_within}
+use Rattle.un_domains.specs.LevelLaws.{unwind_one, unstamp_one, there_popped}
 use Rattle.un_domains.proofs.levels.give_back.Goals as goal
 
 pub loop-saves-preserved : goal.loop-saves-preserved

@@ -1,5 +1,5 @@
 -- what is left to give back comes to the whole
-use Rattle.std.proofs.Common.{ℕ, ◌≡◌, ◌<◌, ◌≤◌, take, drop, length, All, vec_len, vec_capacity}
+use Rattle.std.proofs.Common.{◌≡◌, ◌<◌, ◌≤◌, take, drop, length, All, vec_len, vec_capacity}
 use Rattle.un_domains.specs.Levels.{unwind, unstamp}
 use Rattle.un_domains.specs.declared.levels.Saved.{Saved}
 use Rattle.un_domains.proofs.levels.give_back.Given as goal

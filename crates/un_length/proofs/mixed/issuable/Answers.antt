@@ -1,4 +1,4 @@
-use Rattle.std.proofs.Common.{◌≡◌, ◌&&◌, Bool, ℕ, ap, length, slice_index, arith}
+use Rattle.std.proofs.Common.{◌≡◌, ◌&&◌, ℕ, ap, length, slice_index, arith}
 use Rattle.un_length.specs.Sums.{as_number, count_below}
 use Rattle.un_length.specs.SumLaws.{count_few, one_at_most, sum_part}
 use Rattle.un_length.specs.Mixed.{is_of, may_issue}

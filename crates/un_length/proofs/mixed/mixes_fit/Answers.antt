@@ -1,4 +1,4 @@
-use Rattle.std.proofs.Common.{ℕ, suc, ◌≡◌, ◌≤◌, ◌<◌, ◌+◌, ◌||◌, ◌∙◌, Bool, true, false}
+use Rattle.std.proofs.Common.{ℕ, suc, ◌≡◌, ◌+◌, ◌||◌, ◌∙◌, Bool, true, false}
 use Rattle.std.proofs.Common.{if◌then◌else◌, length, nat_eq, nat_lt, slice_index, refl, sym, ap, subst, arith}
 use Rattle.std.proofs.lemmas.Bool.Decides.{nat_tests}
 use Rattle.un_isa.specs.declared.packet_counts.Resource.TheVariants.{Instructions}
@@ -9,7 +9,7 @@ use Rattle.un_length.specs.Sums.{count_below}
 use Rattle.un_length.specs.SumLaws.{count_few, none_counted}
 use Rattle.un_length.specs.Counting.{ends_at, ended, starts}
 use Rattle.un_length.specs.CountingLaws.{none_started, none_ended, starts_more, ended_more, in_order_each}
-use Rattle.un_length.specs.Mixed.{AreMixed, lost_at, mixed_end_fits, mixes_fit}
+use Rattle.un_length.specs.Mixed.{AreMixed, lost_at, mixed_end_fits}
 use Rattle.un_length.specs.MixedLaws.{from_last, lost_most, lost_few, lost_or_none, quiet_mixed, whole_mixed, fits_mixed, mixed_step}
 use Rattle.un_length.proofs.Steps.{below_next, right_of}
 use Rattle.un_length.proofs.mixed.mixes_fit.Goals as goal

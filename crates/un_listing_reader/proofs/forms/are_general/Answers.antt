@@ -1,8 +1,7 @@
 -- One more, and at the end all.
-use Rattle.std.proofs.Common.{rules, ◌≡◌, true, take, refl, sym, subst, arith}
+use Rattle.std.proofs.Common.{rules, ◌≡◌, true, take, refl, sym, arith}
 use Rattle.std.proofs.lemmas.List.{take_all}
 use Rattle.std.proofs.lemmas.List.Elements.{All-more, All-same}
-use Rattle.un_isa.specs.declared.reg.Reg.{Reg}
 use Rattle.un_listing_reader.proofs.Formed.{IsGeneral}
 use Rattle.un_listing_reader.proofs.forms.are_general.Goals as goal
 

@@ -1,5 +1,5 @@
 -- A line that is no label's is what it is as a packet's.
-use Rattle.std.proofs.Common.{rules, ◌≡◌, None, Option, subst, sym}
+use Rattle.std.proofs.Common.{Option, subst, sym}
 use Rattle.un_listing_reader.specs.declared.line.Line.{Line}
 use Rattle.un_listing_reader.specs.Reading.{IsReadAs}
 use Rattle.un_listing_reader.proofs.LineReads.{HasNoLabel, line_read}

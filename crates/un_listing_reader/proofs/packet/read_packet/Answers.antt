@@ -1,6 +1,5 @@
 -- A line is read by its instructions, its form and its rules.
-use Rattle.std.proofs.Common.{rules, ◌≡◌, List, Some, None}
-use Rattle.un_isa.specs.declared.instr.Instr.{Instr}
+use Rattle.std.proofs.Common.{rules, ◌≡◌, Some, None}
 use Rattle.un_listing_reader.specs.PacketWords.{parts_of, instrs_in}
 use Rattle.un_listing_reader.proofs.Formed.{other, not_formed, by_its_rules, whole}
 use Rattle.un_listing_reader.proofs.packet.read_packet.Goals as goal

@@ -1,4 +1,4 @@
-use Rattle.std.proofs.Common.{◌≡◌, ℕ, ◌+◌, List, [], length, take, sym, ap, ◌∙◌, subst}
+use Rattle.std.proofs.Common.{ℕ, ◌+◌, List, [], length, take, sym, ap, ◌∙◌, subst}
 use Rattle.un_merges.specs.Lowered.{AreLowered}
 use Rattle.un_merges.proofs.Lowering.{none_lowered, skip_op, lower_op, lowered_long}
 use Rattle.un_merges.proofs.merges.lower_cycles.Goals as goal

@@ -1,4 +1,4 @@
-use Rattle.std.proofs.Common.{ℕ, ◌+◌, ◌-◌, sum}
+use Rattle.std.proofs.Common.{◌+◌, ◌-◌, sum}
 use Rattle.un_model.specs.Cost.{value_of}
 use Rattle.un_merges.proofs.Passes.{IsTried}
 use Rattle.un_merges.proofs.merges.merge_block.Given as goal

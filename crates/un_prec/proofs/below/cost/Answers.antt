@@ -1,7 +1,6 @@
-use Rattle.std.proofs.Common.{ℕ, zero, suc, List, [], ◌∷◌, ◌≡◌, ◌<◌, ◌≤◌, ◌+◌, ◌-◌, ◌^◌, min, drop, length, refl, arith, subst, nat_lt, ap}
-use Rattle.std.proofs.lemmas.Bool.Decides.{nat_tests}
+use Rattle.std.proofs.Common.{ℕ, zero, suc, List, [], ◌∷◌, ◌≡◌, ◌≤◌, ◌+◌, ◌-◌, ◌^◌, min, drop, length, refl, arith, subst}
 use Rattle.un_prec.specs.declared.below.Weighted.{Weighted}
-use Rattle.un_prec.specs.Below.{cost_at, least_cost, below_test, below_steps}
+use Rattle.un_prec.specs.Below.{cost_at}
 use Rattle.un_prec.proofs.below.cost.Goals as goal
 
 drop_all : (es : List Weighted) (i : ℕ) → length es ≤ i → drop i es ≡ []

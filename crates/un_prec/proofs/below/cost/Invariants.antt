@@ -1,5 +1,5 @@
 -- the cost so far, and the rest
-use Rattle.std.proofs.Common.{◌≡◌, ◌≤◌, ◌+◌, ◌-◌, ◌^◌, min, drop, length}
+use Rattle.std.proofs.Common.{◌≡◌, ◌≤◌, ◌+◌, ◌-◌, ◌^◌, min, drop}
 use Rattle.un_prec.specs.Below.{cost_at}
 use Rattle.un_prec.proofs.below.cost.Given as goal
 

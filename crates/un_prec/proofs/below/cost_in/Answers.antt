@@ -1,8 +1,6 @@
-use Rattle.std.proofs.Common.{ℕ, zero, suc, List, [], ◌∷◌, ◌≡◌, ◌<◌, ◌≤◌, ◌+◌, ◌-◌, ◌^◌, min, drop, length, refl, arith, subst, nat_lt, ap}
-use Rattle.std.proofs.lemmas.Bool.Decides.{nat_tests}
+use Rattle.std.proofs.Common.{ℕ, zero, suc, List, [], ◌∷◌, ◌≡◌, ◌≤◌, ◌+◌, ◌-◌, ◌^◌, min, drop, length, refl, arith, subst}
 use Rattle.un_prec.specs.declared.below.Weighted.{Weighted}
-use Rattle.un_prec.specs.Below.{cost_at, least_cost, below_test, below_steps}
-use Rattle.un_domains.specs.Sets.{set_at}
+use Rattle.un_prec.specs.Below.{least_cost}
 use Rattle.un_prop.specs.AmongLaws.{has_among}
 use Rattle.un_prec.proofs.below.cost_in.Goals as goal
 

@@ -1,11 +1,10 @@
-use Rattle.std.proofs.Common.{ℕ, List, ◌≡◌, ◌≤◌, ◌<◌, ◌+◌, ◌-◌, ◌∙◌, option_and_then, ap, subst, sym, arith}
+use Rattle.std.proofs.Common.{List, ◌≤◌, ◌<◌, ◌-◌, ◌∙◌, option_and_then, ap, subst, sym, arith}
 use Rattle.std.proofs.lemmas.Bool.Decides.{nat_tests}
 use Rattle.un_base.specs.declared.ids.VarId.{VarId}
 use Rattle.un_prec.specs.declared.below.Weighted.{Weighted}
 use Rattle.un_prec.specs.Below.{least_cost, below_test, below_steps, end_cut, BelowVars}
 use Rattle.un_prop.specs.Failing.{first_cut, fail_cut}
 use Rattle.un_prop.specs.FailLaws.{first_all, first_fails}
-use Rattle.un_prop.specs.Going.{Stepped}
 use Rattle.un_prop.specs.GoingLaws.{stepped_same, stepped_by, stepped_chain}
 use Rattle.un_prop.specs.Rounds.{HasVars, round}
 use Rattle.un_prop.specs.declared.propagator.Pruned.TheVariants.{Same}

@@ -1,10 +1,10 @@
-use Rattle.std.proofs.Common.{ℕ, List, Bool, true, false, ◌≡◌, ◌≢◌, ◌<◌, ◌≤◌, ◌+◌, ◌-◌, ◌*◌, ◌/◌, ◌^◌, ◌∙◌, length, get_or, max, min}
-use Rattle.std.proofs.Common.{nat_lt, nat_le}
+use Rattle.std.proofs.Common.{ℕ, List, true, false, ◌≡◌, ◌≢◌, ◌<◌, ◌≤◌, ◌+◌, ◌-◌, ◌/◌, ◌∙◌, length, get_or, max, min}
+use Rattle.std.proofs.Common.{nat_le}
 use Rattle.std.proofs.Common.{refl, sym, ap, subst, arith}
 use Rattle.std.proofs.lemmas.Bool.Decides.{nat_tests}
 use Rattle.std.proofs.lemmas.List.{get_or_default}
 use Rattle.un_base.specs.declared.ids.VarId.{VarId}
-use Rattle.un_domains.specs.Sets.{Sets, set_at, has, least, greatest, cut_by}
+use Rattle.un_domains.specs.Sets.{Sets, set_at, least, greatest, cut_by}
 use Rattle.un_domains.specs.SetLaws.{has-fold_max}
 use Rattle.un_prop.specs.Among.{among}
 use Rattle.un_prop.specs.AmongLaws.{has_among}

@@ -1,8 +1,5 @@
-use Rattle.std.proofs.Common.{ℕ, List, ◌≡◌, ◌<◌, ◌+◌, ◌∙◌, get_or, take, length, refl, sym, ap, subst, arith}
-use Rattle.un_base.specs.declared.ids.VarId.{VarId}
-use Rattle.un_domains.specs.Sets.{Sets}
-use Rattle.un_prop.specs.EachLaws.{each_start, each_next, each_end}
-use Rattle.un_prop.specs.Rounds.{HasVars, round}
+use Rattle.std.proofs.Common.{◌∙◌, ap, arith}
+use Rattle.un_prop.specs.EachLaws.{each_next}
 use Rattle.un_prec.specs.declared.below.Weighted.{Weighted}
 use Rattle.un_prec.specs.Below.{end_cut}
 use Rattle.un_prec.proofs.below.keep_ends.Goals as goal

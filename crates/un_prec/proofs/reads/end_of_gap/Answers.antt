@@ -1,4 +1,4 @@
-use Rattle.std.proofs.Common.{ℕ, ◌≡◌, ◌+◌, ◌∙◌, nat_le, get_or, sym, ap}
+use Rattle.std.proofs.Common.{ℕ, ◌+◌, ◌∙◌, nat_le, sym, ap}
 use Rattle.un_prop.specs.ChoiceLaws.{passes_within, passes_past}
 use Rattle.un_prec.proofs.reads.end_of_gap.Goals as goal
 

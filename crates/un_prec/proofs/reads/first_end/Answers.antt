@@ -1,4 +1,4 @@
-use Rattle.std.proofs.Common.{ℕ, ◌≡◌, ◌<◌, ◌+◌, ◌∙◌, Bool, nat_le, sym, ap, arith}
+use Rattle.std.proofs.Common.{ℕ, ◌<◌, ◌+◌, ◌∙◌, nat_le, sym, ap, arith}
 use Rattle.un_domains.specs.Sets.{set_at, greatest}
 use Rattle.un_prop.specs.Choices.{passes_at}
 use Rattle.un_prop.specs.Somewhere.{is_by}

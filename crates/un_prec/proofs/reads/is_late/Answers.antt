@@ -1,5 +1,5 @@
-use Rattle.std.proofs.Common.{ℕ, ◌≡◌, ◌<◌, ◌≤◌, ◌+◌, ◌∙◌, List, length, nat_le, get_or, sym, ap, subst}
-use Rattle.un_prop.specs.Acts.{act_number, at_value}
+use Rattle.std.proofs.Common.{ℕ, ◌+◌, ◌∙◌, nat_le, get_or, sym, ap}
+use Rattle.un_prop.specs.Acts.{at_value}
 use Rattle.un_prop.specs.Choices.{passes_at}
 use Rattle.un_prop.specs.ChoiceLaws.{passes_within, passes_past}
 use Rattle.un_prec.proofs.reads.is_late.Goals as goal

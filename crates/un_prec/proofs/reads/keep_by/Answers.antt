@@ -1,6 +1,6 @@
-use Rattle.std.proofs.Common.{ℕ, ◌≡◌, ◌≤◌, ◌<◌, ◌+◌, ◌-◌, ◌^◌, ◌∙◌, Bool, true, false, nat_le, nat_lt, sym, ap, arith}
+use Rattle.std.proofs.Common.{ℕ, ◌≡◌, ◌≤◌, ◌<◌, ◌+◌, ◌-◌, ◌^◌, ◌∙◌, true, false, nat_le, nat_lt, sym, ap, arith}
 use Rattle.std.proofs.lemmas.Bool.Decides.{nat_tests}
-use Rattle.un_domains.specs.Sets.{cut_by, set_at, greatest}
+use Rattle.un_domains.specs.Sets.{cut_by, set_at}
 use Rattle.un_domains.specs.SetLaws.{has-fold_max}
 use Rattle.un_domains.specs.OrderLaws.{same_test}
 use Rattle.un_prop.specs.GoingLaws.{stepped_by}

@@ -1,9 +1,8 @@
-use Rattle.std.proofs.Common.{ℕ, List, Bool, true, false, ◌≡◌, ◌≢◌, ◌<◌, ◌∙◌, not, ◌&&◌, ◌||◌, Some, length, get_or, refl, sym, ap, subst}
+use Rattle.std.proofs.Common.{ℕ, List, Bool, true, false, ◌≡◌, ◌∙◌, not, ◌||◌, get_or, sym, ap, subst}
 use Rattle.std.proofs.Common.{arith}
 use Rattle.std.specs.declared.option.Option.{Option}
-use Rattle.std.specs.List.{slice_get}
 use Rattle.un_base.specs.declared.ids.VarId.{VarId}
-use Rattle.un_domains.specs.Sets.{Sets, cut_by, greatest}
+use Rattle.un_domains.specs.Sets.{cut_by, greatest}
 use Rattle.un_prop.specs.Acts.{act_vars, at_vars}
 use Rattle.un_prop.specs.Among.{among, AllAmong}
 use Rattle.un_prop.specs.AmongLaws.{has_among}
@@ -13,8 +12,7 @@ use Rattle.un_prop.specs.Looks.{at_set, act_set, sure}
 use Rattle.un_prop.specs.Rounds.{HasVars}
 use Rattle.un_prop.specs.When.{is_only, when_test}
 use Rattle.un_prop.specs.declared.act.At.{At}
-use Rattle.un_prop.specs.declared.act.At.TheVariants.{Const, Var}
-use Rattle.un_prop.specs.declared.propagator.Pruned.TheVariants.{Failed}
+use Rattle.un_prop.specs.declared.act.At.TheVariants.{Var}
 use Rattle.un_prec.specs.Links.{at_cut}
 use Rattle.un_prec.specs.LinkLaws.{at_is}
 use Rattle.un_prec.specs.declared.reads.ReadAlt.{ReadAlt}

@@ -1,4 +1,4 @@
-use Rattle.std.proofs.Common.{List, ℕ, ◌≡◌, length, ap, sym, subst, refl, ◌∙◌, option_and_then}
+use Rattle.std.proofs.Common.{List, ◌≡◌, length, ap, sym, subst, ◌∙◌, option_and_then}
 use Rattle.std.specs.declared.option.Option.{Option}
 use Rattle.un_base.specs.declared.ids.VarId.{VarId}
 use Rattle.un_domains.specs.Sets.{Sets}

@@ -1,18 +1,17 @@
-use Rattle.std.proofs.Common.{ℕ, List, Bool, ◌≡◌, ◌≢◌, ◌<◌, ◌+◌, ◌-◌, ◌^◌, ◌∙◌, min, nat_lt, nat_le, true, false, refl, sym, ap, subst}
+use Rattle.std.proofs.Common.{List, ◌≡◌, ◌+◌, ◌-◌, ◌^◌, min, nat_lt, true, false, sym, subst}
 use Rattle.std.proofs.Common.{arith}
 use Rattle.un_base.specs.declared.ids.VarId.{VarId}
-use Rattle.un_domains.specs.Sets.{Sets, cut_by, least, greatest}
-use Rattle.un_prop.specs.Acts.{act_vars, at_vars}
+use Rattle.un_domains.specs.Sets.{cut_by, least}
+use Rattle.un_prop.specs.Acts.{at_vars}
 use Rattle.un_prop.specs.AmongLaws.{has_among}
 use Rattle.un_prop.specs.Among.{among, AllAmong}
 use Rattle.un_prop.specs.declared.act.At.{At}
 use Rattle.un_prop.specs.declared.act.At.TheVariants.{Var}
 use Rattle.un_prop.specs.Looks.{at_set}
-use Rattle.un_prop.specs.Rounds.{HasVars}
-use Rattle.un_prop.specs.GoingLaws.{stepped_failed, stepped_same, stepped_by}
-use Rattle.un_prec.specs.Links.{at_cut, both_sure, later_test, earlier_test, apart_test}
+use Rattle.un_prop.specs.GoingLaws.{stepped_same, stepped_by}
+use Rattle.un_prec.specs.Links.{at_cut, both_sure, later_test}
 use Rattle.un_prop.specs.LookLaws.{known_of}
-use Rattle.un_prec.specs.LinkLaws.{at_same, at_is, not_sure, is_sure_or, later_is, later_zero}
+use Rattle.un_prec.specs.LinkLaws.{at_same, at_is, not_sure, later_is, later_zero}
 use Rattle.un_prec.proofs.rules.later.Goals as goal
 
 pub returns-then-not-are_sure-clause-step : goal.returns-then-not-are_sure-clause-step

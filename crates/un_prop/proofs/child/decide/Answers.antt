@@ -1,6 +1,6 @@
 use Rattle.std.proofs.Common.{ℕ, ap, subst, sym, length, nat_le, nat_lt, ◌∙◌}
 use Rattle.std.proofs.lemmas.List.{length-set}
-use Rattle.un_domains.specs.Sets.{Sets, cut_by}
+use Rattle.un_domains.specs.Sets.{cut_by}
 use Rattle.un_prop.specs.Pruning.{Ends}
 use Rattle.un_prop.specs.GoingLaws.{cut_ends}
 use Rattle.un_domains.specs.Sides.{side_test}

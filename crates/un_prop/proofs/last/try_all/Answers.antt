@@ -1,17 +1,14 @@
-use Rattle.std.proofs.Common.{ℕ, List, Bool, ◌≡◌, ◌≢◌, ◌<◌, ◌+◌, ◌||◌, ◌∙◌, not, nat_eq, nat_le, set, length, arith, refl, sym, ap, subst}
-use Rattle.std.proofs.Common.{option_and_then, Some, None}
+use Rattle.std.proofs.Common.{ℕ, List, Bool, ◌≡◌, ◌<◌, ◌+◌, ◌||◌, ◌∙◌, not, nat_eq, nat_le, set, arith, refl, sym, ap, subst}
+use Rattle.std.proofs.Common.{option_and_then}
 use Rattle.std.specs.declared.option.Option.{Option}
 use Rattle.un_base.specs.declared.ids.VarId.{VarId}
-use Rattle.un_domains.specs.Sets.{Sets, set_at, cut_by, least, greatest, NoneEmpty}
+use Rattle.un_domains.specs.Sets.{Sets, set_at, cut_by, least, greatest}
 use Rattle.un_prop.specs.Steps.{has_var}
-use Rattle.un_prop.specs.Last.{point, last_of, last_cut, last_cut_at}
-use Rattle.un_prop.specs.GoingLaws.{starts, goes_then, goes_by, goes_same}
-use Rattle.un_prop.specs.Going.{Goes}
-use Rattle.un_prop.specs.LastLaws.{try_first, try_next, try_last, same_tried, last_single}
-use Rattle.un_prop.specs.Pruning.{IsPrune, join}
-use Rattle.un_prop.specs.declared.propagator.Pruned.{Pruned}
-use Rattle.un_prop.specs.declared.propagator.Pruned.TheVariants.{Same, Failed}
-use Rattle.un_prop.proofs.RoundLaws.{left_of}
+use Rattle.un_prop.specs.Last.{point}
+use Rattle.un_prop.specs.GoingLaws.{starts}
+use Rattle.un_prop.specs.LastLaws.{try_first, try_next, try_last, same_tried}
+use Rattle.un_prop.specs.Pruning.{IsPrune}
+use Rattle.un_prop.specs.declared.propagator.Pruned.TheVariants.{Same}
 use Rattle.un_prop.proofs.last.try_all.Goals as goal
 
 pub loop-y-init : goal.loop-y-init

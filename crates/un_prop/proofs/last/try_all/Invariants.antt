@@ -1,5 +1,5 @@
 -- the values below y are tried
-use Rattle.std.proofs.Common.{ℕ, ◌≡◌, ◌≢◌, ◌<◌, ◌≤◌, ◌||◌, length, get_or, set, nat_le, All}
+use Rattle.std.proofs.Common.{◌≡◌, ◌≢◌, ◌||◌, get_or, set, nat_le, All}
 use Rattle.un_domains.specs.Sets.{set_at, least, cut_by}
 use Rattle.un_prop.specs.Last.{point}
 use Rattle.un_prop.specs.Pruning.{IsPrune}

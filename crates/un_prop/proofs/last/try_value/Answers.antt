@@ -1,4 +1,4 @@
-use Rattle.std.proofs.Common.{ℕ, Bool, not, nat_eq, ◌||◌, set, refl, sym, ap, subst, ◌∙◌}
+use Rattle.std.proofs.Common.{ℕ, not, nat_eq, ◌||◌, set, refl, sym, ap, subst, ◌∙◌}
 use Rattle.un_domains.specs.Sets.{cut_by}
 use Rattle.un_prop.specs.Going.{Goes, answer_of}
 use Rattle.un_prop.specs.GoingLaws.{cut_ends, cut_untouched, goes_then, goes_same, goes_by}

@@ -1,7 +1,7 @@
-use Rattle.std.proofs.Common.{ℕ, List, Bool, true, ◌≡◌, ◌∙◌, nat_le, sym, subst, arith}
+use Rattle.std.proofs.Common.{List, true, ◌≡◌, ◌∙◌, nat_le, sym, subst, arith}
 use Rattle.std.specs.List.{list_any}
 use Rattle.un_base.specs.declared.ids.VarId.{VarId}
-use Rattle.un_domains.specs.Sets.{Sets, set_at, cut_by}
+use Rattle.un_domains.specs.Sets.{set_at, cut_by}
 use Rattle.un_prop.specs.Acts.{act_vars}
 use Rattle.un_prop.specs.Among.{among, AllAmong}
 use Rattle.un_prop.specs.AmongLaws.{has_among}

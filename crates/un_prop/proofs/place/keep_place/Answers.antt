@@ -1,7 +1,6 @@
-use Rattle.std.proofs.Common.{ℕ, List, Bool, true, false, ◌≡◌, ◌≢◌, ◌∙◌, ◌||◌, not, nat_eq, refl, sym, ap, subst, arith}
+use Rattle.std.proofs.Common.{ℕ, List, Bool, true, false, ◌≡◌, ◌∙◌, ◌||◌, not, nat_eq, refl, sym, ap, arith}
 use Rattle.std.proofs.lemmas.Bool.Decides.{nat_tests}
-use Rattle.un_base.specs.declared.ids.VarId.{VarId}
-use Rattle.un_domains.specs.Sets.{Sets, cut_by, has, set_at}
+use Rattle.un_domains.specs.Sets.{cut_by, has, set_at}
 use Rattle.un_prop.specs.Acts.{act_vars}
 use Rattle.un_prop.specs.AmongLaws.{has_among}
 use Rattle.un_prop.specs.Looks.{sure}
@@ -10,7 +9,6 @@ use Rattle.un_prop.specs.LastLaws.{cut_all, cut_same}
 use Rattle.un_prop.specs.GoingLaws.{stepped_same, stepped_by}
 use Rattle.un_prop.specs.Places.{place_test, place_cut}
 use Rattle.un_prop.specs.PlaceLaws.{place_unsure, place_can, place_goes}
-use Rattle.un_prop.specs.declared.propagator.Pruned.TheVariants.{Failed}
 use Rattle.un_prop.proofs.place.keep_place.Goals as goal
 
 pub has-requires : goal.has-requires

@@ -1,6 +1,6 @@
 -- those so far are noted
 use Rattle.std.proofs.Common.{◌≡◌, ℕ, ◌<◌, length, get_or}
-use Rattle.un_domains.specs.Sets.{Sets, set_at}
+use Rattle.un_domains.specs.Sets.{set_at}
 use Rattle.un_prop.proofs.queue.measure.Given as goal
 
 abbrev pub invariant-loop-i : goal.invariant-loop-i

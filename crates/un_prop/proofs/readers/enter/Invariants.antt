@@ -1,7 +1,7 @@
 -- those so far are entered
 use Rattle.std.proofs.Common.{◌≡◌, ℕ, ◌<◌, ◌⊎◌, true, length, get_or}
 use Rattle.un_base.specs.declared.ids.VarId.{VarId}
-use Rattle.un_domains.specs.Sets.{Sets, set_at, has}
+use Rattle.un_domains.specs.Sets.{set_at, has}
 use Rattle.un_prop.proofs.readers.enter.Given as goal
 
 abbrev pub invariant-loop-v : goal.invariant-loop-v

@@ -1,13 +1,13 @@
-use Rattle.std.proofs.Common.{refl, sym, ap, subst, arith, ◌≡◌, ◌∙◌, length, List, Some, None}
+use Rattle.std.proofs.Common.{refl, sym, ap, subst, ◌≡◌, ◌∙◌, Some}
 use Rattle.std.specs.declared.option.Option.{Option}
-use Rattle.std.proofs.lemmas.List.Elements.{recursion_from_All, All-from_recursion}
-use Rattle.un_domains.specs.Sets.{Sets, IsIn, Kept, total}
+use Rattle.std.proofs.lemmas.List.Elements.{recursion_from_All}
+use Rattle.un_domains.specs.Sets.{Sets, IsIn, Kept}
 use Rattle.un_domains.specs.OrderLaws.{Below-refl}
 use Rattle.un_prop.specs.Rounds.{round, fix_of}
-use Rattle.un_prop.specs.Fixes.{IsFixOf, fix_greatest, round_ends, round_fails, known_long}
+use Rattle.un_prop.specs.Fixes.{IsFixOf, fix_greatest, round_ends, known_long}
 use Rattle.un_prop.specs.Pruning.{IsFix}
 use Rattle.un_prop.specs.declared.propagator.Pruned.TheVariants.{Same, Tighter}
-use Rattle.un_prop.specs.declared.run.Fix.TheVariants.{Stable, Failed as Lost}
+use Rattle.un_prop.specs.declared.run.Fix.TheVariants.{Stable}
 use Rattle.un_prop.specs.KeepLaws.{round_kept}
 use Rattle.un_prop.proofs.RoundLaws.{left_of, none_of, fix_goes, room_kept}
 use Rattle.un_prop.proofs.run.run_all.Goals as goal

@@ -1,6 +1,6 @@
-use Rattle.std.proofs.Common.{ℕ, List, Bool, false, ap, sym, length, refl, ◌∙◌}
+use Rattle.std.proofs.Common.{false, ap, sym, length, ◌∙◌}
 use Rattle.std.proofs.lemmas.List.{length-set}
-use Rattle.un_domains.specs.Sets.{Sets, cut_by}
+use Rattle.un_domains.specs.Sets.{cut_by}
 use Rattle.un_prop.specs.Failing.{fail_cut}
 use Rattle.un_prop.specs.FailLaws.{first_is, first_none}
 use Rattle.un_prop.specs.GoingLaws.{stepped_then, stepped_same, stepped_by, all_cut, join_failed}

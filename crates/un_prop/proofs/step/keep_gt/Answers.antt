@@ -1,4 +1,4 @@
-use Rattle.std.proofs.Common.{ℕ, nat_le, nat_lt, nat_eq, length, refl, ◌∙◌, ap}
+use Rattle.std.proofs.Common.{ℕ, nat_lt, length, refl, ◌∙◌, ap}
 use Rattle.std.proofs.lemmas.List.{length-set}
 use Rattle.un_domains.specs.Sets.{cut_by}
 use Rattle.un_prop.specs.AmongLaws.{in_list}

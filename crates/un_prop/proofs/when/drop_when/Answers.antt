@@ -1,4 +1,4 @@
-use Rattle.std.proofs.Common.{◌≢◌, ◌∙◌, sym, refl, not, nat_eq, nat_le}
+use Rattle.std.proofs.Common.{◌≢◌, ◌∙◌, sym, refl, not, nat_eq}
 use Rattle.un_domains.specs.Sets.{cut_by}
 use Rattle.un_prop.specs.GoingLaws.{stepped_same, stepped_by}
 use Rattle.un_prop.specs.When.{when_cut, other_than}

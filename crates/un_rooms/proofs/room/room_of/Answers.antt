@@ -1,4 +1,4 @@
-use Rattle.std.proofs.Common.{ℕ, ◌∙◌, ◌+◌, Bool, List, filter, ap}
+use Rattle.std.proofs.Common.{◌∙◌, ◌+◌, Bool, List, filter, ap}
 use Rattle.std.specs.List.{list_any, range_with_len}
 use Rattle.un_isa.specs.declared.reg.TheConstants.{FIRST_SLOT, SLOTS}
 use Rattle.un_rooms.specs.Marked.{is_marked}

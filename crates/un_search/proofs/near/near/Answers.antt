@@ -1,7 +1,6 @@
 use Rattle.std.proofs.Common.{ap}
 use Rattle.un_engine.specs.Engines.{State}
 use Rattle.un_kinds.specs.declared.any.AnyProp.{AnyProp}
-use Rattle.un_search.specs.declared.rounds.ModelStores.{ModelStores}
 use Rattle.un_search.proofs.DiveLemmas.{dive_back}
 use Rattle.un_search.proofs.near.near.Goals as goal
 

@@ -1,5 +1,5 @@
 -- What is posted and what the rounds leave of it are as the clauses of posting say.
-use Rattle.std.proofs.Common.{◌≡◌, [], sym, ap, subst, ◌∙◌}
+use Rattle.std.proofs.Common.{ap, subst, ◌∙◌}
 use Rattle.un_domains.specs.Cuts.{Contents}
 use Rattle.un_domains.specs.Sets.{NoneEmpty}
 use Rattle.un_engine.specs.Engines.{State}

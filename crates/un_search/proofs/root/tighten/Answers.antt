@@ -1,5 +1,3 @@
-use Rattle.std.proofs.Common.{ap, arith, ◌∙◌}
-use Rattle.un_post.specs.Lowered.{with_counted}
 use Rattle.un_search.proofs.Tightening.{lost_first, live_first, tighter_then, both_lead}
 use Rattle.un_search.proofs.root.tighten.Goals as goal
 

@@ -1,4 +1,4 @@
-use Rattle.std.proofs.Common.{◌<◌, ◌≤◌, Some, inr, subst, arith}
+use Rattle.std.proofs.Common.{◌<◌, Some, inr, subst, arith}
 use Rattle.un_search.specs.Answers.{IsLeftOfRoot}
 use Rattle.un_search.specs.Roots.{IsIncumbent}
 use Rattle.un_search.specs.Solved.{OnBetter}

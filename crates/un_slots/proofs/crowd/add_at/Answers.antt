@@ -1,5 +1,5 @@
-use Rattle.std.proofs.Common.{◌≡◌, ◌≤◌, ◌∙◌, true, sym, arith}
-use Rattle.un_domains.specs.Sets.{set_at, least, greatest}
+use Rattle.std.proofs.Common.{◌≡◌, ◌∙◌, true, sym, arith}
+use Rattle.un_domains.specs.Sets.{set_at, least}
 use Rattle.un_prop.specs.AmongLaws.{has_among}
 use Rattle.un_slots.specs.Counts.{ends_at}
 use Rattle.un_slots.specs.CountLaws.{least_most, end_is, adds_one}

@@ -1,5 +1,4 @@
-use Rattle.std.proofs.Common.{ℕ, zero, suc, ◌≡◌, ◌≤◌, ◌+◌, ◌-◌, ◌^◌, ◌∙◌, List, take, sum_by, get_or, refl, sym, ap, subst, arith}
-use Rattle.un_slots.specs.declared.item.Item.{Item}
+use Rattle.std.proofs.Common.{ℕ, suc, ◌≡◌, ◌-◌, ◌^◌, ◌∙◌, take, sum_by, refl, sym, ap, subst, arith}
 use Rattle.un_slots.specs.Slots.{ItemVars}
 use Rattle.un_slots.specs.Counts.{adds, ending, ends_at}
 use Rattle.un_slots.specs.CountLaws.{few_below, ending_one, adds_none, not_ending}

@@ -1,7 +1,6 @@
-use Rattle.std.proofs.Common.{ℕ, ◌≡◌, ◌+◌, ◌-◌, ◌^◌, List, length, take, sum_by, min, sym, ap, subst, arith}
-use Rattle.un_slots.specs.declared.item.Item.{Item}
+use Rattle.std.proofs.Common.{◌≡◌, ◌-◌, ◌^◌, length, sum_by, min, sym, ap, subst, arith}
 use Rattle.un_slots.specs.Slots.{ItemVars}
-use Rattle.un_slots.specs.Counts.{adds, ending, ends_at}
+use Rattle.un_slots.specs.Counts.{adds, ending}
 use Rattle.un_slots.specs.CountLaws.{sum_below, few_below, ending_one, take_min}
 use Rattle.un_slots.proofs.crowd.add_rest.Goals as goal
 

@@ -1,10 +1,9 @@
-use Rattle.std.proofs.Common.{ℕ, suc, ◌≡◌, ◌≤◌, ◌<◌, ◌+◌, ◌-◌, ◌^◌, ◌||◌, ◌∙◌, Bool, true, false, List, length, sum_by, nat_eq, refl}
-use Rattle.std.proofs.Common.{sym, ap, subst, arith}
+use Rattle.std.proofs.Common.{ℕ, suc, ◌≡◌, ◌<◌, ◌+◌, ◌-◌, ◌^◌, ◌||◌, ◌∙◌, Bool, true, false, length, sum_by, nat_eq, refl}
+use Rattle.std.proofs.Common.{sym, subst, arith}
 use Rattle.std.proofs.lemmas.Bool.Decides.{nat_tests}
 use Rattle.un_prop.specs.LookLaws.{both}
-use Rattle.un_slots.specs.declared.item.Item.{Item}
-use Rattle.un_slots.specs.Crowds.{surely_takes, all_below, counted}
-use Rattle.un_slots.specs.Counts.{AreCounts, adds, ended, ending, starts, end_fits}
+use Rattle.un_slots.specs.Crowds.{all_below, counted}
+use Rattle.un_slots.specs.Counts.{AreCounts, ended, ending, starts, end_fits}
 use Rattle.un_slots.specs.CountLaws.{ordered_counted, few_below, starts_one, ended_one, next_counts, next_later, ended_more, none_ended}
 use Rattle.un_slots.specs.CountLaws.{whole_counted, fits_counted, none_ending, quiet_end, not_below, right_of}
 use Rattle.un_slots.proofs.crowd.ends_fit.Goals as goal

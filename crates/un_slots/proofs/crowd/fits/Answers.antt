@@ -1,4 +1,4 @@
-use Rattle.std.proofs.Common.{ℕ, ◌≡◌, ◌≤◌, ◌+◌, ◌-◌, ◌*◌, ◌^◌, ◌∙◌, List, length, sym, ap, subst, arith}
+use Rattle.std.proofs.Common.{ℕ, ◌≡◌, ◌+◌, ◌-◌, ◌*◌, ◌^◌, ◌∙◌, List, length, sym, ap, subst, arith}
 use Rattle.un_slots.specs.Crowds.{surely_takes, crowd, crowd_fits, counted}
 use Rattle.un_isa.specs.PacketCounts.{places_of}
 use Rattle.un_slots.specs.Counts.{ends_at, end_fits}

@@ -1,4 +1,4 @@
-use Rattle.std.proofs.Common.{sym, subst, arith}
+use Rattle.std.proofs.Common.{sym, subst}
 use Rattle.un_prop.specs.Acts.{act_vars}
 use Rattle.un_prop.specs.LookLaws.{known_of}
 use Rattle.un_slots.specs.Slots.{ItemVars}

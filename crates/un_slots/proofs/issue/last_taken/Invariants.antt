@@ -1,5 +1,5 @@
 -- the cycles from `last` on have no settled item
-use Rattle.std.proofs.Common.{ℕ, ◌≡◌, ◌≤◌, ◌<◌, true, slice_index}
+use Rattle.std.proofs.Common.{ℕ, ◌≡◌, ◌≤◌, ◌<◌, slice_index}
 use Rattle.un_slots.proofs.issue.last_taken.Given as goal
 
 abbrev pub invariant-loop-last : goal.invariant-loop-last

@@ -1,7 +1,5 @@
-use Rattle.std.proofs.Common.{rules, sym, ◌∙◌, refl}
-use Rattle.un_ir.specs.Source.{op_step}
 use Rattle.un_source.specs.States.{state_of}
-use Rattle.un_source.proofs.Steps.{load_step, store_step, call_step, other_step}
+use Rattle.un_source.proofs.Steps.{load_step, store_step, other_step}
 use Rattle.un_source.proofs.ops.step.Goals as goal
 
 pub returns-in-Load : goal.returns-in-Load

@@ -1,5 +1,4 @@
-use Rattle.std.proofs.Common.{◌≡◌, List, sym, subst}
-use Rattle.un_ir.specs.declared.function.Block.{Block}
+use Rattle.std.proofs.Common.{sym, subst}
 use Rattle.un_source.specs.States.{CanRunBlocks}
 use Rattle.un_source.proofs.FunctionRuns.{can_run_function}
 use Rattle.un_source.proofs.run.run_with.Goals as goal

@@ -1,6 +1,5 @@
 use Rattle.std.proofs.Common.{ap, subst}
 use Rattle.std.specs.Result.{IfErr}
-use Rattle.std.specs.declared.vec.Vec.{Vec}
 use Rattle.un_logs.specs.Stuck.{IsFirstStuck}
 use Rattle.un_top.proofs.StepLaws.{log_made, log_stuck}
 use Rattle.un_top.proofs.RightTrees.{right_plain, right_sides, right_whole}

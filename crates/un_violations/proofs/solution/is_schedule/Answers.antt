@@ -1,4 +1,4 @@
-use Rattle.std.proofs.Common.{refl, sym, length}
+use Rattle.std.proofs.Common.{refl, length}
 use Rattle.un_violations.proofs.Places.{issues_placed}
 use Rattle.un_violations.proofs.solution.is_schedule.Goals as goal
 

@@ -1,4 +1,4 @@
-use Rattle.std.proofs.Common.{ℕ, List, ◌≡◌, ◌∙◌, ap, subst, refl, option_and_then}
+use Rattle.std.proofs.Common.{List, ◌∙◌, ap, subst, refl, option_and_then}
 use Rattle.un_base.specs.declared.ids.VarId.{VarId}
 use Rattle.un_prop.specs.Last.{last_cut}
 use Rattle.un_prop.specs.Going.{Goes, Stepped}

@@ -1,16 +1,12 @@
-use Rattle.std.proofs.Common.{ℕ, List, Bool, ◌≡◌, ◌∙◌, ap, sym, subst, refl, option_and_then, Some}
-use Rattle.std.specs.declared.option.Option.{Option}
+use Rattle.std.proofs.Common.{List, ◌∙◌, ap, subst, refl, option_and_then}
 use Rattle.un_base.specs.declared.ids.VarId.{VarId}
-use Rattle.un_domains.specs.Sets.{Sets}
 use Rattle.un_prop.specs.Last.{last_cut}
 use Rattle.un_prop.specs.Going.{Goes, Stepped}
-use Rattle.un_prop.specs.GoingLaws.{goes_chain, stepped_chain}
+use Rattle.un_prop.specs.GoingLaws.{goes_chain}
 use Rattle.un_prop.specs.PartLaws.{checked}
 use Rattle.un_prop.specs.declared.propagator.Pruned.TheVariants.{Same}
-use Rattle.un_prop.specs.declared.act.Act.TheVariants.{Always}
-use Rattle.un_prop.specs.declared.act.At.TheVariants.{Const, Var}
 use Rattle.un_prec.specs.Links.{link_steps}
-use Rattle.un_prec.specs.Before.{before_link, before_holds, before_steps}
+use Rattle.un_prec.specs.Before.{before_link, before_holds}
 use Rattle.un_prec.proofs.before.BeforePropagator.prune_in.Goals as goal
 
 pub returns-clause-prune : goal.returns-clause-prune

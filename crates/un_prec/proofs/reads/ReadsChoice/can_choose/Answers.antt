@@ -1,4 +1,4 @@
-use Rattle.std.proofs.Common.{List, ◌≡◌, All, sym, subst}
+use Rattle.std.proofs.Common.{List, All, sym, subst}
 use Rattle.un_base.specs.declared.ids.VarId.{VarId}
 use Rattle.un_prop.specs.Acts.{at_vars}
 use Rattle.un_prop.specs.LookLaws.{known_of}

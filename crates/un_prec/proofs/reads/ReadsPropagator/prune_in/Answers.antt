@@ -1,6 +1,5 @@
-use Rattle.std.proofs.Common.{ℕ, List, ◌≡◌, ◌≤◌, ◌∙◌, length, ap, sym, subst, refl, option_and_then, arith}
+use Rattle.std.proofs.Common.{ℕ, List, ◌≡◌, ◌∙◌, ap, subst, refl, option_and_then, arith}
 use Rattle.un_base.specs.declared.ids.VarId.{VarId}
-use Rattle.un_domains.specs.Sets.{Sets}
 use Rattle.un_prop.specs.Last.{last_cut}
 use Rattle.un_prop.specs.Going.{Goes, Stepped}
 use Rattle.un_prop.specs.GoingLaws.{goes_chain, stepped_chain}
