@@ -1,5 +1,5 @@
 -- The variable of a call's part that is left to decide.
-use Rattle.std.proofs.Common.{ℕ, zero, suc, ◌≡◌, true, List, ◌∷◌, ◌++◌, set, Some, sym, ap, ◌∙◌, subst, arith}
+use Rattle.std.proofs.Common.{ℕ, zero, suc, ◌≡◌, true, List, ◌∷◌, ◌++◌, length, set, Some, All, sym, ap, ◌∙◌, subst, arith}
 use Rattle.std.proofs.lemmas.List.Elements.{All-contains, All-append, recursion_from_All}
 use Rattle.un_base.specs.declared.ids.VarId.{VarId}
 use Rattle.un_domains.specs.Sets.{Sets, cut_by, NoneEmpty}
@@ -13,12 +13,14 @@ use Rattle.un_rect.specs.Spans.{TempVars}
 use Rattle.un_rect.specs.Apart.{temp_vars, users_vars}
 use Rattle.un_rect.specs.Clobber.{spares, CallVars, call_vars, check_call}
 use Rattle.un_rect.specs.ClobberLaws.{part_looks, part_known}
+use Rattle.un_rect.specs.Entries.{entry_cut, each_entry}
 use Rattle.un_rect.specs.Opened.{opened_at, opened_after, is_more, Says}
 use Rattle.un_rect.specs.OpenedLaws.{after_append, after_more, more_is, says_of, last_more, last_one, last_none}
 use Rattle.un_rect.specs.TempLaws.{among_left, among_here, filter_ascends, temp_all, users_all}
 use Rattle.un_rect.specs.declared.clobber.ClobberCall.{ClobberCall}
 use Rattle.un_rect.specs.declared.opened.Opened.{Opened}
 use Rattle.un_rect.specs.declared.opened.Opened.TheVariants.{Nothing, One, More}
+use Rattle.un_rect.proofs.Survivors.{each_idle, entry_idle}
 
 module _ (vs : List VarId) (mask : ℕ) (a : Temp) (c : ClobberCall) (ascend : Ascend vs) (ha : TempVars vs a) (hc : CallVars vs c)
     (s : Sets) (k : HasVars vs s) (full : NoneEmpty s) where
@@ -72,3 +74,11 @@ module _ (vs : List VarId) (mask : ℕ) (a : Temp) (c : ClobberCall) (ascend : A
       (part_looks vs mask a ha c hc) s
       (after_append s (temp_vars a) (c.at ∷ users_vars c.behind) Nothing
       ∙ (ap (opened_after s (c.at ∷ users_vars c.behind)) (sym p ∙ more_is first e) ∙ after_more s (c.at ∷ users_vars c.behind)))
+
+-- so no call of a list has a part to decide
+pub temp_idle : (vs : List VarId) (mask : ℕ) (a : Temp) → Ascend vs → TempVars vs a → (s : Sets) → HasVars vs s → NoneEmpty s
+    → (first : Opened) → first ≡ opened_after s (temp_vars a) Nothing → is_more first ≡ true → (calls : List ClobberCall)
+    → All (CallVars vs) calls → each_entry (check_call vs mask a) calls s ≡ Some s
+temp_idle vs mask a ascend ha s k full first p e calls h = each_idle (entry_cut (check_call vs mask a) calls) s (length calls)
+    (entry_idle (CallVars vs) (check_call vs mask a) s (λ c hc. temp_more vs mask a c ascend ha hc s k full first p e) calls
+    (recursion_from_All (CallVars vs) calls h))

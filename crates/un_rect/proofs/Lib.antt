@@ -1,9 +1,11 @@
+pub mod Anys
 pub mod CallSteps
 pub mod CheckSteps
 pub mod ClashLaws
 pub mod ExtentLaws
 pub mod Going
 pub mod Loops
+pub mod Masks
 pub mod OperandSteps
 pub mod OrderSteps
 pub mod Parted
@@ -13,3 +15,4 @@ pub mod Rows
 pub mod Settled
 pub mod Spared
 pub mod Survivors
+pub mod Taken

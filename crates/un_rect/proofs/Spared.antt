@@ -44,7 +44,7 @@ module _ (vs : List VarId) (mask : ℕ) (a : Temp) (ha : TempVars vs a) (s : Set
   alive = any_has (λ r. not (in_mask mask r)) (set_at s a.reg.0) (least (set_at s a.reg.0)) own
       (ap not (out (least (set_at s a.reg.0)) own))
 
-  steps_idle : (c : ClobberCall) → CallVars vs c → call_steps mask a c s ≡ Some s
+  pub steps_idle : (c : ClobberCall) → CallVars vs c → call_steps mask a c s ≡ Some s
   steps_idle c hc = survivor_steps vs mask a c ha hc s k full alive ∙ cut_all (hit_test mask a c s) a.reg.0 s within full
       (λ y there. passes_unmet (in_mask mask y && (sure a.on s && lasts a c s)) (no_left (in_mask mask y) (sure a.on s && lasts a c s)
       (out y there)))

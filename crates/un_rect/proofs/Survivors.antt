@@ -1,5 +1,5 @@
 -- Calls of a temporary that has some register left outside the mask.
-use Rattle.std.proofs.Common.{ℕ, zero, suc, ◌≡◌, ◌≢◌, ◌<◌, Bool, true, false, not, ◌&&◌, List, [], ◌∷◌, length, filter}
+use Rattle.std.proofs.Common.{ℕ, zero, suc, ◌≡◌, ◌<◌, Bool, true, false, not, ◌&&◌, List, [], ◌∷◌, length, filter}
 use Rattle.std.proofs.Common.{nat_eq, nat_le, nat_lt, cond}
 use Rattle.std.proofs.Common.{None, Some, option_and_then, refl, sym, ap, ◌∙◌, subst, arith}
 use Rattle.std.specs.declared.option.Option.{Option}
@@ -20,9 +20,6 @@ use Rattle.un_prop.specs.LookLaws.{both}
 use Rattle.un_prop.specs.Places.{each_place}
 use Rattle.un_prop.specs.PlaceLaws.{act_same}
 use Rattle.un_prop.specs.SomewhereLaws.{any_more}
-use Rattle.un_prop.specs.Pruning.{Ends}
-use Rattle.un_prop.specs.declared.propagator.Pruned.{Pruned}
-use Rattle.un_prop.specs.declared.propagator.Pruned.TheVariants.{Failed}
 use Rattle.un_prop.specs.declared.act.Temp.{Temp}
 use Rattle.un_prop.specs.declared.act.UserOf.{UserOf}
 use Rattle.un_rect.specs.Entries.{entry_cut, each_entry}
@@ -115,10 +112,3 @@ module _ (vs : List VarId) (mask : ℕ) (a : Temp) (c : ClobberCall) (ha : TempV
             let long = length-set s a.reg.0 (filter (hit_test mask a c s) (set_at s a.reg.0)) in
             rest_idle left (λ i d lt. (let old = k i d lt in omega (arith, old, long)))
             (kept_full (hit_test mask a c s) s a.reg.0 within full some) left_alive
-
-    pub survivor_left : (new : Sets) (did : Pruned) → Ends (hit_cut mask a c s) s new did → did ≢ Failed → may_survive mask a new ≡ true
-    survivor_left new did = by (nat_eq (length (filter (hit_test mask a c s) (set_at s a.reg.0))) 0)
-      where
-        by : (b : Bool) → Ends (cond b None (Some left)) s new did → did ≢ Failed → may_survive mask a new ≡ true
-        by true h other = absurd (other h.0)
-        by false h other = subst (λ (t : Sets). may_survive mask a t ≡ true) (sym h.sets) left_alive

@@ -1,8 +1,8 @@
 //! Calls: a temporary that lives across a call has a register that the call keeps.
 
-ghost use Rattle.std.specs.Prelude.{◌≡◌, ◌≢◌, ◌<◌, ◌≤◌, ℕ, ◌&&◌, true, length, not, All};
+ghost use Rattle.std.specs.Prelude.{◌≡◌, ◌≢◌, ◌<◌, ◌≤◌, ℕ, ◌&&◌, ◌+◌, true, length, min, nat_le, nat_lt, not, All};
 ghost use Rattle.std.specs.List.{list_any};
-ghost use Rattle.un_domains.specs.Sets.{NoneEmpty, set_at};
+ghost use Rattle.un_domains.specs.Sets.{NoneEmpty, set_at, least, greatest};
 ghost use Rattle.un_isa.specs.Tables.{in_mask};
 ghost use Rattle.un_prop.specs.Acts.{is_user};
 ghost use Rattle.un_prop.specs.Looks.{sure};
@@ -111,6 +111,14 @@ fn may_survive(w: &Window<'_>, mask: u64, a: &Temp) -> bool
     any_survives(w, mask, a)
 }
 
+/// Where the registers of a mask end that a variable may be whose greatest value this is: a mask has none from 64 on, and slots are
+/// many.
+fn mask_end(most: u32) -> u64
+    ensures { result ≡ min (most + 1) 64 }
+{
+    if most < 64 { u64::from(most) + 1 } else { 64 }
+}
+
 /// Whether a variable may be a register of a mask.
 fn may_be_hit(w: &Window<'_>, mask: u64, a: &Temp) -> bool
     requires there { a.now.reg.0 < length w.now.store.now.sets }
@@ -118,7 +126,7 @@ fn may_be_hit(w: &Window<'_>, mask: u64, a: &Temp) -> bool
     ensures { result ≡ list_any (in_mask mask) (set_at w.now.store.now.sets a.now.reg.0) }
 {
     let low = u64::from(w.min(a.reg));
-    let high = u64::from(w.max(a.reg)) + 1;
+    let high = mask_end(w.max(a.reg));
     for r in low..high {
         if w.has(a.reg, r as u32) {
             if is_in_mask(mask, r as u32) {
@@ -368,33 +376,65 @@ fn keep_call(w: &mut Window<'_>, before: Pruned, mask: u64, a: &Temp, c: &Clobbe
     keep_readers(w, third, mask, a, c)
 }
 
-/// The same. Where some register is left outside the mask, a call takes registers alone, and leaves one that is outside.
-fn keep_one(
-    w: &mut Window<'_>,
-    before: Pruned,
-    mask: u64,
-    a: &Temp,
-    c: &ClobberCall,
-    survives: bool,
-) -> Pruned
-    requires of_temp { TempVars w.old.vars.now a.now }
-    requires of_call { CallVars w.old.vars.now c.now }
-    requires known { HasVars w.old.vars.now w.old.store.now.sets }
-    requires live { before ≢ Failed → NoneEmpty w.old.store.now.sets }
-    requires survives { before ≢ Failed → survives ≡ true → may_survive mask a.now w.old.store.now.sets ≡ true }
-    ensures step { Stepped w.old.vars.now (call_steps mask a.now c.now) w.old.store.now w.new.store.now before result }
-    ensures survives { result ≢ Failed → survives ≡ true → may_survive mask a.now w.new.store.now.sets ≡ true }
-    ensures same_reference { w.new.store.ghost_name ≡ w.old.store.ghost_name }
-    ensures vars { w.new.vars ≡ w.old.vars }
+/// Whether a call has no cycle before `start`, and none from `end` on.
+fn is_within(w: &Window<'_>, c: &ClobberCall, start: u32, end: u64) -> bool
+    requires of_call { CallVars w.now.vars.now c.now }
+    requires known { HasVars w.now.vars.now w.now.store.now.sets }
+    requires live { NoneEmpty w.now.store.now.sets }
+    ensures { result ≡ (nat_le start (least (set_at w.now.store.now.sets c.now.at.0)) &&
+        nat_lt (greatest (set_at w.now.store.now.sets c.now.at.0)) end) }
 {
-    if !survives {
-        return keep_call(w, before, mask, a, c);
+    if start > w.min(c.at) {
+        return false;
     }
-    if before == Pruned::Failed {
-        return before;
+    u64::from(w.max(c.at)) < end
+}
+
+/// Whether some call is in a temporary's time for sure. When it starts and ends is asked once for all calls.
+fn any_covers(w: &Window<'_>, a: &Temp, calls: &[ClobberCall]) -> bool
+    requires of_temp { TempVars w.now.vars.now a.now }
+    requires of_calls { All (CallVars w.now.vars.now) calls.now }
+    requires known { HasVars w.now.vars.now w.now.store.now.sets }
+    requires live { NoneEmpty w.now.store.now.sets }
+    ensures { result ≡ list_any (λ c. covers a.now c w.now.store.now.sets) calls.now }
+{
+    let start = greatest_time(w, a.at);
+    let end = least_end(w, a);
+    for c in calls {
+        if is_within(w, c, start, end) {
+            return true;
+        }
     }
-    let did = keep_register(w, Pruned::Same, mask, a, c);
-    joined(before, did)
+    false
+}
+
+/// Whether a temporary is defined before some call for sure, and read behind it for sure.
+fn any_read_behind(w: &Window<'_>, calls: &[ClobberCall]) -> bool
+    requires of_calls { All (CallVars w.now.vars.now) calls.now }
+    requires known { HasVars w.now.vars.now w.now.store.now.sets }
+    requires live { NoneEmpty w.now.store.now.sets }
+    ensures { result ≡ list_any (λ c. is_read_behind c w.now.store.now.sets) calls.now }
+{
+    for c in calls {
+        if is_read_behind(w, c) {
+            return true;
+        }
+    }
+    false
+}
+
+/// Whether a temporary, where it is active, lives across some call for sure.
+fn any_lasts(w: &Window<'_>, a: &Temp, calls: &[ClobberCall]) -> bool
+    requires of_temp { TempVars w.now.vars.now a.now }
+    requires of_calls { All (CallVars w.now.vars.now) calls.now }
+    requires known { HasVars w.now.vars.now w.now.store.now.sets }
+    requires live { NoneEmpty w.now.store.now.sets }
+    ensures { result ≡ list_any (λ c. lasts a.now c w.now.store.now.sets) calls.now }
+{
+    if any_covers(w, a, calls) {
+        return true;
+    }
+    any_read_behind(w, calls)
 }
 
 /// Whether some register is left outside the mask; not after a failure.
@@ -407,6 +447,59 @@ fn survives(w: &Window<'_>, before: Pruned, mask: u64, a: &Temp) -> bool
         return false;
     }
     may_survive(w, mask, a)
+}
+
+/// All that is known of a temporary and each call, where some register is left outside the mask. A call takes registers alone then,
+/// and the first one that takes some takes all of the mask, so that nothing is left to take for the others.
+fn keep_survivor(
+    w: &mut Window<'_>,
+    before: Pruned,
+    mask: u64,
+    a: &Temp,
+    calls: &[ClobberCall],
+) -> Pruned
+    requires of_temp { TempVars w.old.vars.now a.now }
+    requires of_calls { All (CallVars w.old.vars.now) calls.now }
+    requires known { HasVars w.old.vars.now w.old.store.now.sets }
+    requires live { before ≢ Failed → NoneEmpty w.old.store.now.sets }
+    requires survives { may_survive mask a.now w.old.store.now.sets ≡ true }
+    ensures step { Stepped w.old.vars.now (each_entry (call_steps mask a.now) calls.now) w.old.store.now w.new.store.now before result }
+    ensures same_reference { w.new.store.ghost_name ≡ w.old.store.ghost_name }
+    ensures vars { w.new.vars ≡ w.old.vars }
+{
+    if before == Pruned::Failed {
+        return before;
+    }
+    if !is_sure(w, a.on) {
+        return before;
+    }
+    if !any_lasts(w, a, calls) {
+        return before;
+    }
+    keep_passing(&Kept(mask), w, before, a.reg)
+}
+
+/// All that is known of a temporary and each call, call by call.
+fn keep_each(
+    w: &mut Window<'_>,
+    before: Pruned,
+    mask: u64,
+    a: &Temp,
+    calls: &[ClobberCall],
+) -> Pruned
+    requires of_temp { TempVars w.old.vars.now a.now }
+    requires of_calls { All (CallVars w.old.vars.now) calls.now }
+    requires known { HasVars w.old.vars.now w.old.store.now.sets }
+    requires live { before ≢ Failed → NoneEmpty w.old.store.now.sets }
+    ensures step { Stepped w.old.vars.now (each_entry (call_steps mask a.now) calls.now) w.old.store.now w.new.store.now before result }
+    ensures same_reference { w.new.store.ghost_name ≡ w.old.store.ghost_name }
+    ensures vars { w.new.vars ≡ w.old.vars }
+{
+    let mut did = before;
+    for c in calls {
+        did = keep_call(w, did, mask, a, c);
+    }
+    did
 }
 
 /// All that is known of a temporary and each call.
@@ -425,12 +518,10 @@ fn keep_calls(
     ensures same_reference { w.new.store.ghost_name ≡ w.old.store.ghost_name }
     ensures vars { w.new.vars ≡ w.old.vars }
 {
-    let survives = survives(w, before, mask, a);
-    let mut did = before;
-    for c in calls {
-        did = keep_one(w, did, mask, a, c, survives);
+    if survives(w, before, mask, a) {
+        return keep_survivor(w, before, mask, a, calls);
     }
-    did
+    keep_each(w, before, mask, a, calls)
 }
 
 /// A call, and a temporary that it has to spare.
@@ -537,8 +628,8 @@ pub struct Clobber {
     ghost of_calls: { All (CallVars vars) calls },
 }
 
-/// Where one variable of a part is left to decide, it keeps the values that meet the part.
-fn check_calls(w: &mut Window<'_>, before: Pruned, p: &Clobber, fixed: &mut [u32]) -> Pruned
+/// Where one variable of a part is left to decide, it keeps the values that meet the part, part by part.
+fn check_each(w: &mut Window<'_>, before: Pruned, p: &Clobber, fixed: &mut [u32]) -> Pruned
     requires vars { w.old.vars.now ≡ p.now.vars }
     requires known { HasVars p.now.vars w.old.store.now.sets }
     requires live { before ≢ Failed → NoneEmpty w.old.store.now.sets }
@@ -560,6 +651,26 @@ fn check_calls(w: &mut Window<'_>, before: Pruned, p: &Clobber, fixed: &mut [u32
         did = check(w, did, &part, fixed);
     }
     did
+}
+
+/// The same. Where more than one variable of the temporary is open, no part has one alone that is left to decide.
+fn check_calls(w: &mut Window<'_>, before: Pruned, p: &Clobber, fixed: &mut [u32]) -> Pruned
+    requires vars { w.old.vars.now ≡ p.now.vars }
+    requires known { HasVars p.now.vars w.old.store.now.sets }
+    requires live { before ≢ Failed → NoneEmpty w.old.store.now.sets }
+    requires room { length w.old.store.now.sets ≤ length fixed.old }
+    ensures step { Stepped w.old.vars.now (each_entry (check_call p.now.vars p.now.mask p.now.temp) p.now.calls) w.old.store.now
+        w.new.store.now before result }
+    ensures same_reference { w.new.store.ghost_name ≡ w.old.store.ghost_name }
+    ensures vars { w.new.vars ≡ w.old.vars }
+{
+    if before == Pruned::Failed {
+        return before;
+    }
+    if is_more(with_temp(w, Opened::Nothing, &p.temp)) {
+        return before;
+    }
+    check_each(w, before, p, fixed)
 }
 
 impl Predicate for Clobber {

@@ -1,7 +1,8 @@
-use Rattle.std.proofs.Common.{◌<◌, ◌∙◌, sym, arith, inl, inr}
+use Rattle.std.proofs.Common.{◌+◌, ◌≤◌, ◌∙◌, min, sym, arith, inl, inr}
 use Rattle.un_domains.specs.Sets.{set_at, greatest}
 use Rattle.un_isa.specs.Tables.{in_mask}
-use Rattle.un_prop.specs.SomewhereLaws.{any_none, any_whole, any_has, none_next}
+use Rattle.un_prop.specs.SomewhereLaws.{any_none, any_has, none_next}
+use Rattle.un_rect.proofs.Masks.{mask_whole}
 use Rattle.un_rect.proofs.clobber.may_be_hit.Goals as goal
 use Rattle.un_rect.proofs.clobber.may_be_hit.Goals.{then-has+else-is_in_mask, else-has}
 
@@ -28,5 +29,5 @@ pub returns : goal.returns
 returns c =
     let s = c.args.w.now.store.now.sets in
     let xs = set_at s c.args.a.now.reg.0 in
-    let top : greatest xs < c.loop-r.r = omega (arith, c.loop-r-test.false, c.from-high.ensures, c.max.ensures) in
-    sym (sym (any_whole (in_mask c.args.mask) xs c.loop-r.r top) ∙ c.loop-r.invariant)
+    let end : min (greatest xs + 1) 64 ≤ c.loop-r.r = omega (arith, c.loop-r-test.false, c.mask_end-high.ensures, c.max.ensures) in
+    sym (sym (mask_whole c.args.mask xs c.loop-r.r c.ranges.mask.fits end) ∙ c.loop-r.invariant)

@@ -4,7 +4,7 @@ use Rattle.un_prop.specs.Going.{Stepped}
 use Rattle.un_prop.specs.Places.{each_place}
 use Rattle.un_rect.specs.Entries.{entry_cut}
 use Rattle.un_rect.specs.Clobber.{check_call}
-use Rattle.un_rect.proofs.clobber.check_calls.Given as goal
+use Rattle.un_rect.proofs.clobber.check_each.Given as goal
 
 abbrev pub invariant-loop-call : goal.invariant-loop-call
 invariant-loop-call l = record {
