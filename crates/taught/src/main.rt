@@ -1,6 +1,7 @@
 //! Says more of a fault than its line and code, for a user: the words at fault underlined, what is wrong, and what would be accepted.
-//! `text` teaches of a function's text on standard input, `texts` of the files that a file of this name lists, `words` of the words
-//! behind it, and `start N`, `listing N` and `report N` of the line N of such a part on standard input.
+//! `text` teaches of a function's text on standard input, `texts` of the files that a file of this name lists, which are functions, or
+//! listings with the ending `.lst`, `words` of the words behind it, and `start N`, `listing N` and `report N` of the line N of such a part
+//! on standard input.
 #![tactic(auto)]
 
 use std::alloc::Global;
@@ -8,6 +9,7 @@ use std::process::ExitCode;
 use std::rt::Files;
 use std::{fs, io};
 use un_base::decimal::read_decimal;
+use un_base::lines::lines;
 use un_base::memory_error::NoMemory;
 use un_outside::files::{StdSink, StdSource};
 use un_outside::outside::{Sink, Source};
@@ -52,14 +54,8 @@ fn number_of(word: Option<&Word>) -> usize {
     }
 }
 
-/// What is said of a line of a part of this kind.
-fn of_part(
-    alloc: Global,
-    kind: &[u8],
-    line: Option<&Word>,
-    text: &[u8],
-) -> Result<String, NoMemory> {
-    let number = number_of(line);
+/// What is said of the line of this number of a part of this kind.
+fn of_line(alloc: Global, kind: &[u8], number: usize, text: &[u8]) -> Result<String, NoMemory> {
     match grammar_of(kind) {
         Some(grammar) => {
             let lesson = teach_part(alloc, text, number, grammar)?;
@@ -81,7 +77,7 @@ fn of_input(
     if kind == b"text".as_slice() {
         of_text(alloc, text)
     } else {
-        of_part(alloc, kind, line, text)
+        of_line(alloc, kind, number_of(line), text)
     }
 }
 
@@ -105,10 +101,33 @@ fn of_source<S: Source>(alloc: Global, words: &[Word], src: &mut S) -> Result<St
     }
 }
 
+/// What is said of each packet of a listing.
+fn of_packets(alloc: Global, text: &[u8]) -> Result<String, NoMemory> {
+    let mut said = String::new(alloc);
+    let mut number: usize = 0;
+    for line in lines(text) {
+        number = number.saturating_add(1);
+        if line.starts_with(b"{") {
+            let one = of_line(alloc, b"listing", number, text)?;
+            said.push_str(one.as_str())?;
+        }
+    }
+    Ok(said)
+}
+
+/// What is said of a file's text, by the end of its name: of the packets of a listing, or of a function.
+fn of_named(alloc: Global, name: &[u8], text: &[u8]) -> Result<String, NoMemory> {
+    if name.ends_with(b".lst") {
+        of_packets(alloc, text)
+    } else {
+        of_text(alloc, text)
+    }
+}
+
 /// Says what is said of the text of a file.
 fn tell_file(rt: &(impl Files + Print + AllocGlobal), name: &str) -> io::Result<()> {
     let text = fs::read_to_string(rt, name)?;
-    let said = match of_text(rt.alloc(), text.as_bytes()) {
+    let said = match of_named(rt.alloc(), name.as_bytes(), text.as_bytes()) {
         Ok(said) => said,
         Err(_) => format!(in rt.alloc(); "no memory\n")?,
     };

@@ -12,7 +12,7 @@ use un_words::line::Line;
 use un_words::token::Token;
 
 /// What a literal of this range may be.
-fn range_text(range: Range) -> &'static str {
+pub(crate) fn range_text(range: Range) -> &'static str {
     match range {
         Range::Signed16 => "-32768 to 32767",
         Range::Signed10 => "-512 to 511",

@@ -2,6 +2,8 @@
 
 use crate::lesson::{Lesson, Place, at_word, behind, told, whole};
 use crate::near::nearest;
+use crate::numbers::number_told;
+use crate::packets::packet_told;
 use crate::row::{Row, row_of};
 use crate::word::Shown;
 use std::alloc::{AllocError, Global};
@@ -269,12 +271,38 @@ fn no_number(row: &Row<'_>) -> Option<usize> {
     None
 }
 
+/// What is said of a line whose words are its form's: of a word that is at fault by itself, or else of where the line stands.
+fn place_told(
+    alloc: Global,
+    row: &Row<'_>,
+    form: Form,
+    grammar: Grammar,
+    part: &[u8],
+) -> Result<Lesson, NoMemory> {
+    let lesson = if form.head == "{" {
+        packet_told(alloc, row, part)?
+    } else {
+        number_told(alloc, row, form.head.as_bytes())?
+    };
+    if let Some(lesson) = lesson {
+        return Ok(lesson);
+    }
+    let text = form.text;
+    let order = grammar.order;
+    told(
+        whole(row),
+        format!(in alloc; "the line may not stand here, or a number of it is out of its range"),
+        format!(in alloc; "it is written {text}; {order}"),
+    )
+}
+
 /// What is said of a line of a form, whose words may not be its or which may not stand where it does.
 fn form_told(
     alloc: Global,
     row: &Row<'_>,
     form: Form,
     grammar: Grammar,
+    part: &[u8],
 ) -> Result<Lesson, NoMemory> {
     let text = form.text;
     let count = row.words().len();
@@ -304,12 +332,7 @@ fn form_told(
             );
         }
     }
-    let order = grammar.order;
-    told(
-        whole(row),
-        format!(in alloc; "the line may not stand here, or a number of it is out of its range"),
-        format!(in alloc; "it is written {text}; {order}"),
-    )
+    place_told(alloc, row, form, grammar, part)
 }
 
 /// What is said of a line that begins with a number.
@@ -321,8 +344,13 @@ fn numbers_told(alloc: Global, row: &Row<'_>, grammar: Grammar) -> Result<Lesson
     told(whole(row), wrong, format!(in alloc; "{order}"))
 }
 
-/// What is said of a line.
-fn row_told(alloc: Global, row: &Row<'_>, grammar: Grammar) -> Result<Lesson, NoMemory> {
+/// What is said of a line of a part.
+fn row_told(
+    alloc: Global,
+    row: &Row<'_>,
+    grammar: Grammar,
+    part: &[u8],
+) -> Result<Lesson, NoMemory> {
     let Some(first) = row.words().first() else {
         let order = grammar.order;
         return told(
@@ -337,7 +365,7 @@ fn row_told(alloc: Global, row: &Row<'_>, grammar: Grammar) -> Result<Lesson, No
         .copied()
         .find(|form| form.head.as_bytes() == first.text);
     match found {
-        Some(form) => form_told(alloc, row, form, grammar),
+        Some(form) => form_told(alloc, row, form, grammar, part),
         None if read_decimal(first.text).is_some() => numbers_told(alloc, row, grammar),
         None => head_told(alloc, row, first.text, grammar),
     }
@@ -353,7 +381,7 @@ pub fn teach_part(
     match line_at(text, number) {
         Some(line) => {
             let row = row_of(alloc, number, line.strip_suffix(b"\r").unwrap_or(line))?;
-            row_told(alloc, &row, grammar)
+            row_told(alloc, &row, grammar, text)
         }
         None => {
             let place = Place {
